@@ -1,137 +1,31 @@
 -- The change of a query's bag is carried through its operators.
---     delta-carried     from the bag before, that of afterwards, or none exactly where there is none
+--     delta-carries     from the bag before, that of afterwards, or none exactly where there is none
 --     net_delta         its net is the net change of the two bags
 use Rattle.std.specs.Prelude.{◌≡◌, Option, Some, None}
-use Rattle.std.proofs.Common.{refl, subst}
-use Rattle.wh_meaning.specs.Scalar.{Scalar, of_one, of_two}
-use Rattle.wh_meaning.specs.Bag.{Bag, plus}
+use Rattle.wh_meaning.specs.Bag.{Bag}
 use Rattle.wh_meaning.specs.BagChange.{IsNet}
-use Rattle.wh_meaning.specs.Query.{Query, Scan, Filter, Project, Join, UnionAll, Group, Instance, source_in}
-use Rattle.wh_meaning.specs.Query.{kept_by, image_by, filtered, projected, joined, grouped, eval}
-use Rattle.wh_maintenance.specs.Turn.{less, IsTurn}
-use Rattle.wh_maintenance.specs.Carried.{Change, IsCarried, carried_over}
-use Rattle.wh_maintenance.specs.Delta.{summed, joined_beside, joined_change, regrouped, Sources, change_in, AreTurns}
-use Rattle.wh_maintenance.specs.Delta.{delta}
+use Rattle.wh_meaning.specs.Query.{Query, Scan, Filter, Project, Join, UnionAll, Group, Instance, eval}
+use Rattle.wh_maintenance.specs.Turn.{less}
+use Rattle.wh_maintenance.specs.Carried.{Change, IsCarried}
+use Rattle.wh_maintenance.specs.Delta.{Sources, AreTurns, Carries, delta}
 use Rattle.wh_maintenance.proofs.Less.{count-less}
-use Rattle.wh_maintenance.proofs.Turns.{rest_stays, turns_to, changed_of_turn, net_of_sides}
-use Rattle.wh_maintenance.proofs.Linear.{gathered-carried, plus-turn}
-use Rattle.wh_maintenance.proofs.Join.{joined-carried}
-use Rattle.wh_maintenance.proofs.Regroup.{regrouped-carried}
+use Rattle.wh_maintenance.proofs.Turns.{changed_of_turn, net_of_sides}
+use Rattle.wh_maintenance.proofs.Carrying.{carries-scan, carries-filter, carries-project, carries-join}
+use Rattle.wh_maintenance.proofs.Carrying.{carries-union, carries-group}
+
+pub delta-carries : (s : Sources) (q : Query) → Carries q s (delta q s)
+unfolding delta
+delta-carries s (Scan source) = carries-scan s source
+delta-carries s (Filter q condition) = carries-filter s q condition (delta q s) (delta-carries s q)
+delta-carries s (Project q items) = carries-project s q items (delta q s) (delta-carries s q)
+delta-carries s (Join p q on) =
+    carries-join s p q on (delta p s) (delta q s) (delta-carries s p) (delta-carries s q)
+delta-carries s (UnionAll p q) =
+    carries-union s p q (delta p s) (delta q s) (delta-carries s p) (delta-carries s q)
+delta-carries s (Group q by calls) = carries-group s q by calls (delta q s) (delta-carries s q)
 
 pub net_of-net : (old new : Bag) → IsNet old new (less new old) (less old new)
 net_of-net old new = record { added = count-less new old; removed = count-less old new }
-
-least : (old new : Bag) (c : Change) → IsTurn old new c.comes c.goes → (x : IsTurn old new c.comes c.goes)
-    × (x.stays ≡ less old c.goes)
-least old new c turn = (
-  record {
-    stays = less old c.goes;
-    was = rest_stays old new c.comes c.goes turn;
-    is = turns_to old new c.comes c.goes turn;
-  },
-  refl,
-)
-
-join_carried : (on : Scalar) (a a' b b' o : Bag) (c d : Change) → IsTurn a a' c.comes c.goes
-    → IsTurn b b' d.comes d.goes → joined on a b ≡ Some o → IsCarried o (joined on a' b') (joined_change on a b c d)
-join_carried on a a' b b' o c d left right e =
-    let l = least a a' c left in
-    let r = least b b' d right in
-    subst (λ x. IsCarried o (joined on a' b') (joined_beside on x (less b d.goes) c d)) l.1
-    (subst (λ x. IsCarried o (joined on a' b') (joined_beside on l.0.stays x c d)) r.1
-    (joined-carried on a a' b b' o c d l.0 r.0 e))
-
--- ---- an operator over what its inputs carry
-
-abbrev pub Carries : (Bag → Option Bag) → (Bag → Change → Option Change) → Type 0
-Carries F G = (a a' o : Bag) (c : Change) → IsTurn a a' c.comes c.goes → F a ≡ Some o → IsCarried o (F a') (G a c)
-
-abbrev CarriesTwo : (Bag → Bag → Option Bag) → (Bag → Bag → Change → Change → Option Change) → Type 0
-CarriesTwo F G = (a a' b b' o : Bag) (c d : Change) → IsTurn a a' c.comes c.goes → IsTurn b b' d.comes d.goes
-    → F a b ≡ Some o → IsCarried o (F a' b') (G a b c d)
-
-one : (F : Bag → Option Bag) (G : Bag → Change → Option Change) → Carries F G → (before now : Option Bag)
-    (found : Option Change) → ((a : Bag) → before ≡ Some a → IsCarried a now found) → (o : Bag) → of_one F before
-    ≡ Some o
-    → IsCarried o (of_one F now) (of_two G before found)
-one F G law None now found ih o e = cc
-one F G law (Some a) None None ih o e = tt
-one F G law (Some a) None (Some c) ih o e = absurd (ih a refl)
-one F G law (Some a) (Some a') None ih o e = absurd (ih a refl)
-one F G law (Some a) (Some a') (Some c) ih o e = law a a' o c (ih a refl) e
-
-pub one_alone : (F : Bag → Option Bag) (G : Change → Option Change) → Carries F (λ a c. G c) → (before now : Option Bag)
-    (found : Option Change) → ((a : Bag) → before ≡ Some a → IsCarried a now found) → (o : Bag) → of_one F before
-    ≡ Some o
-    → IsCarried o (of_one F now) (of_one G found)
-one_alone F G law None now found ih o e = cc
-one_alone F G law (Some a) None None ih o e = tt
-one_alone F G law (Some a) None (Some c) ih o e = absurd (ih a refl)
-one_alone F G law (Some a) (Some a') None ih o e = absurd (ih a refl)
-one_alone F G law (Some a) (Some a') (Some c) ih o e = law a a' o c (ih a refl) e
-
-two_found : (F : Bag → Bag → Option Bag) (G : Bag → Bag → Change → Change → Option Change) → CarriesTwo F G
-    → (a b : Bag)
-    (a_now b_now : Option Bag) (c d : Option Change) → IsCarried a a_now c → IsCarried b b_now d → (o : Bag)
-    → F a b ≡ Some o → IsCarried o (of_two F a_now b_now) (of_two (G a b) c d)
-two_found F G law a b None b_now None d l r o e = tt
-two_found F G law a b None b_now (Some c) d l r o e = absurd l
-two_found F G law a b (Some a') b_now None d l r o e = absurd l
-two_found F G law a b (Some a') None (Some c) None l r o e = tt
-two_found F G law a b (Some a') None (Some c) (Some d) l r o e = absurd r
-two_found F G law a b (Some a') (Some b') (Some c) None l r o e = absurd r
-two_found F G law a b (Some a') (Some b') (Some c) (Some d) l r o e = law a a' b b' o c d l r e
-
-two : (F : Bag → Bag → Option Bag) (G : Bag → Bag → Change → Change → Option Change) → CarriesTwo F G
-    → (a_was b_was a_now b_now : Option Bag) (c d : Option Change) → ((a : Bag) → a_was ≡ Some a → IsCarried a a_now c)
-    → ((b : Bag) → b_was ≡ Some b → IsCarried b b_now d) → (o : Bag) → of_two F a_was b_was ≡ Some o
-    → IsCarried o (of_two F a_now b_now) (of_two (λ a b. of_two (G a b) c d) a_was b_was)
-two F G law None b_was a_now b_now c d l r o e = cc
-two F G law (Some a) None a_now b_now c d l r o e = cc
-two F G law (Some a) (Some b) a_now b_now c d l r o e = two_found F G law a b a_now b_now c d (l a refl) (r b refl) o e
-
-two_alone : (F : Bag → Bag → Option Bag) (G : Change → Change → Option Change) → CarriesTwo F (λ a b. G)
-    → (a_was b_was a_now b_now : Option Bag) (c d : Option Change) → ((a : Bag) → a_was ≡ Some a → IsCarried a a_now c)
-    → ((b : Bag) → b_was ≡ Some b → IsCarried b b_now d) → (o : Bag) → of_two F a_was b_was ≡ Some o
-    → IsCarried o (of_two F a_now b_now) (of_two G c d)
-two_alone F G law None b_was a_now b_now c d l r o e = cc
-two_alone F G law (Some a) None a_now b_now c d l r o e = cc
-two_alone F G law (Some a) (Some b) a_now b_now c d l r o e =
-    two_found F (λ a b. G) law a b a_now b_now c d (l a refl) (r b refl) o e
-
-sum_carried : CarriesTwo (λ a b. Some (plus a b)) (λ a b c d. Some (summed c d))
-sum_carried a a' b b' o c d left right e =
-    let is : plus a b ≡ o = cc in
-    subst (λ x. IsTurn x (plus a' b') (plus c.comes d.comes) (plus c.goes d.goes)) is
-    (plus-turn a a' b b' c d left right)
-
--- ---- the query
-
-module _ (s : Sources) (new : Instance) (turns : AreTurns s new) where
-  pub delta-carried : (q : Query) (o : Bag) → eval q s.old ≡ Some o → IsCarried o (eval q new) (delta q s)
-  unfolding eval delta
-  delta-carried (Scan source) o e =
-      let is : source_in s.old source ≡ o = cc in
-      subst (λ x. IsTurn x (source_in new source) (change_in s source).comes (change_in s source).goes) is
-      (turns source)
-  delta-carried (Filter q condition) o e =
-      one_alone (filtered condition) (carried_over (kept_by condition))
-      (λ a a' o c turn is. gathered-carried (kept_by condition) a a' o c turn is)
-      (eval q s.old) (eval q new) (delta q s) (delta-carried q) o e
-  delta-carried (Project q items) o e =
-      one_alone (projected items) (carried_over (image_by items))
-      (λ a a' o c turn is. gathered-carried (image_by items) a a' o c turn is)
-      (eval q s.old) (eval q new) (delta q s) (delta-carried q) o e
-  delta-carried (Join left right on) o e =
-      two (joined on) (joined_change on) (join_carried on) (eval left s.old) (eval right s.old) (eval left new)
-      (eval right new) (delta left s) (delta right s) (delta-carried left) (delta-carried right) o e
-  delta-carried (UnionAll left right) o e =
-      two_alone (λ a b. Some (plus a b)) (λ c d. Some (summed c d)) sum_carried (eval left s.old) (eval right s.old)
-      (eval left new) (eval right new) (delta left s) (delta right s) (delta-carried left)
-      (delta-carried right) o e
-  delta-carried (Group q by calls) o e =
-      one (grouped by calls) (regrouped by calls) (regrouped-carried by calls) (eval q s.old) (eval q new)
-      (delta q s) (delta-carried q) o e
 
 -- ---- what a caller has
 
@@ -142,13 +36,13 @@ IsNetFound old None (Some c) = ⊥
 IsNetFound old (Some new) None = ⊥
 IsNetFound old (Some new) (Some c) = IsNet old new (less c.comes c.goes) (less c.goes c.comes)
 
-netted : (old : Bag) (new : Option Bag) (found : Option Change) → IsCarried old new found → IsNetFound old new found
-netted old None None h = h
-netted old None (Some c) h = h
-netted old (Some new) None h = h
-netted old (Some new) (Some c) h = net_of_sides old new c.comes c.goes (less c.comes c.goes) (less c.goes c.comes)
+net_found : (old : Bag) (new : Option Bag) (found : Option Change) → IsCarried old new found → IsNetFound old new found
+net_found old None None h = h
+net_found old None (Some c) h = h
+net_found old (Some new) None h = h
+net_found old (Some new) (Some c) h = net_of_sides old new c.comes c.goes (less c.comes c.goes) (less c.goes c.comes)
     (changed_of_turn old new c.comes c.goes h) (net_of-net c.goes c.comes)
 
 pub net_delta : (q : Query) (s : Sources) (new : Instance) → AreTurns s new → (o : Bag) → eval q s.old ≡ Some o
     → IsNetFound o (eval q new) (delta q s)
-net_delta q s new turns o e = netted o (eval q new) (delta q s) (delta-carried s new turns q o e)
+net_delta q s new turns o e = net_found o (eval q new) (delta q s) ((delta-carries s q).leads new o turns e)

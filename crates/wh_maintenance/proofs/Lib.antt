@@ -2,12 +2,13 @@ pub mod Less
 pub mod Turns
 pub mod Sides
 pub mod Linear
-pub mod LinearQuery
 pub mod Join
 pub mod Keys
 pub mod Group
 pub mod Regroup
+pub mod Carrying
 pub mod Delta
+pub mod LinearQuery
 pub mod Three
 pub mod KnownJoin
 pub mod Parts

@@ -4,14 +4,16 @@
 --     regrouped        of a Group; the groups of the keys that changed rows have, before and afterwards
 --     linear           whether the rows of the sources before count for nothing
 --     delta            of a query, from its sources before and their changes; None where it has no bag afterwards
-use Rattle.std.specs.Prelude.{ℕ, zero, suc, Bool, true, false, ◌&&◌, List, [], ◌∷◌, Option, Some, None}
+--     Carries          what is found of a query's change leads to its bag over each instance that the sources'
+--                      changes lead to
+use Rattle.std.specs.Prelude.{◌≡◌, ℕ, zero, suc, Bool, true, false, ◌&&◌, List, [], ◌∷◌, Option, Some, None}
 use Rattle.wh_value.specs.Value.{Row}
 use Rattle.wh_meaning.specs.Scalar.{Scalar, of_one, of_two}
 use Rattle.wh_meaning.specs.Bag.{Bag, count, plus, beside, restricted}
 use Rattle.wh_meaning.specs.Query.{Query, Scan, Filter, Project, Join, UnionAll, Group, Call, Instance, source_in}
 use Rattle.wh_meaning.specs.Query.{kept_by, image_by, values_on, projected, joined, grouped, eval}
 use Rattle.wh_maintenance.specs.Turn.{less, IsTurn}
-use Rattle.wh_maintenance.specs.Carried.{Change, sided, carried_over}
+use Rattle.wh_maintenance.specs.Carried.{Change, sided, carried_over, IsCarried}
 
 abbrev pub after : Bag → Change → Bag
 after b c = plus (less b c.goes) c.comes
@@ -72,6 +74,9 @@ change_in s place = record { comes = source_in s.comes place; goes = source_in s
 abbrev pub AreTurns : Sources → Instance → Type 0
 AreTurns s new = (place : ℕ)
     → IsTurn (source_in s.old place) (source_in new place) (source_in s.comes place) (source_in s.goes place)
+
+pub record Carries (q : Query) (s : Sources) (found : Option Change) : Type 0 where
+  pub leads : (new : Instance) (o : Bag) → AreTurns s new → eval q s.old ≡ Some o → IsCarried o (eval q new) found
 
 unfoldable pub delta : Query → Sources → Option Change
 delta (Scan source) s = Some (change_in s source)
