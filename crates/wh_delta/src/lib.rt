@@ -2,5 +2,9 @@
 #![tactic(auto)]
 
 mod at_hand;
+mod group;
+mod join;
+mod linear;
 mod moves;
 mod plans;
+mod staying;

@@ -15,3 +15,10 @@ pub(crate) struct Changing<'a> {
     pub(crate) comes: &'a [Source<'a>],
     pub(crate) goes: &'a [Source<'a>],
 }
+
+/// Rows, and which of them went and came since.
+#[derive(Drop)]
+pub(crate) struct Turned {
+    pub(crate) old: Vec<Row>,
+    pub(crate) moves: Moves,
+}
