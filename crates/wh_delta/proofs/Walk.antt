@@ -2,7 +2,7 @@
 --     stays_none, stays_gone, stays_kept     rows of which some go
 --     stays_begun, gone_one, kept_one        the same as the code has them
 --     net_left                               both sides of a change, each less the other, are its net
-use Rattle.std.specs.Prelude.{◌≡◌, ℕ, suc, ◌-◌, ◌<◌, ◌≤◌, Bool, true, false, cond, List, [], ◌∷◌, ◌++◌}
+use Rattle.std.specs.Prelude.{◌≡◌, ℕ, suc, ◌-◌, ◌<◌, ◌≤◌, true, false, cond, List, [], ◌∷◌, ◌++◌}
 use Rattle.std.proofs.Common.{arith, refl, sym, ap, subst, ◌∙◌}
 use Rattle.std.specs.Ordering.{eq_by_cmp}
 use Rattle.wh_value.specs.Value.{Row, row_cmp}

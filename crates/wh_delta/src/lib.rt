@@ -7,4 +7,5 @@ mod join;
 mod linear;
 mod moves;
 mod plans;
+mod reading;
 mod staying;
