@@ -2,10 +2,15 @@
 #![tactic(auto)]
 
 mod at_hand;
+mod carrying;
+mod change;
 mod group;
 mod join;
 mod linear;
+mod moved;
 mod moves;
 mod plans;
 mod reading;
 mod staying;
+
+pub use change::delta;
