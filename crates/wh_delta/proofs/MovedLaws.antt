@@ -109,7 +109,6 @@ one_turn v o is =
 none_turn : IsTurn no_rows no_rows no_rows no_rows
 none_turn = record { stays = no_rows; was = sym (no_rows-plus no_rows); is = sym (no_rows-plus no_rows) }
 
-
 abbrev AtPlace : List View → List View → ℕ → Type 0
 AtPlace old new place = IsTurn (source_in (bags old) place) (source_in (bags new) place)
     (source_in (bags (moved_of new old)) place) (source_in (bags (moved_of old new)) place)

@@ -46,7 +46,7 @@ stays_gone goes seen kept met met' row so less made = record {
       → count (bag_of (seen ++ row ∷ [])) q ≡ cond t (suc (count (bag_of seen) q)) (count (bag_of seen) q)
       → count (bag_of kept) q ≡ count (bag_of (seen ++ row ∷ [])) q - count goes q) [
         | true ↦ λ t b. let m = ap (count met) (tied_rows q row t) in
-        let g' = ap (count goes) (tied_rows q row t) in omega arith
+            let g' = ap (count goes) (tied_rows q row t) in omega arith
         | false ↦ λ t b. omega arith
       ] refl b);
   gone = λ q. let l = left_at goes seen kept met so q in let g = so.gone q in let b = count-behind seen row q in

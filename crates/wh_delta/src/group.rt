@@ -68,12 +68,7 @@ fn recount(
 }
 
 // The rows whose key is among keys.
-fn chosen(
-    alloc: Global,
-    by: &[Scalar],
-    keys: &Bag,
-    rows: Vec<Row>,
-) -> Result<Vec<Row>, AllocError>
+fn chosen(alloc: Global, by: &[Scalar], keys: &Bag, rows: Vec<Row>) -> Result<Vec<Row>, AllocError>
     ensures { IfOk result (λ kept. bag_of kept.items
         ≡ with_keys (scalars_of by.now) keys.now (bag_of rows.items)) }
 {

@@ -45,11 +45,7 @@ pub(crate) fn project_moves(
 }
 
 // What a plan gives over the rows that come, and over those that go.
-fn over_both(
-    alloc: Global,
-    plan: &Physical,
-    moves: &Moves,
-) -> Result<Option<Moves>, AllocError>
+fn over_both(alloc: Global, plan: &Physical, moves: &Moves) -> Result<Option<Moves>, AllocError>
     ensures { IfOk result (λ found. change_found found
         ≡ sided (eval (plan_of plan.now) (bag_of moves.now.comes.items ∷ []))
         (eval (plan_of plan.now) (bag_of moves.now.goes.items ∷ []))) }

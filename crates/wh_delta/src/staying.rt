@@ -26,11 +26,7 @@ pub(crate) fn netted(alloc: Global, moves: Moves) -> Result<Moves, AllocError>
 }
 
 /// The rows less those that go, as often as they go.
-pub(crate) fn staying(
-    alloc: Global,
-    rows: Vec<Row>,
-    goes: &[Row],
-) -> Result<Vec<Row>, AllocError>
+pub(crate) fn staying(alloc: Global, rows: Vec<Row>, goes: &[Row]) -> Result<Vec<Row>, AllocError>
     ensures { IfOk result
         (λ kept. bag_of kept.items ≡ less (bag_of rows.items) (bag_of goes.now)) }
 {
@@ -51,12 +47,7 @@ fn leave(alloc: Global, rows: Vec<Row>, goes: &Bag) -> Result<Vec<Row>, AllocErr
 }
 
 // One more row seen: it goes where as many of it as go weren't met yet.
-fn leave_one(
-    goes: &Bag,
-    row: Row,
-    met: &mut Bag,
-    kept: &mut Vec<Row>,
-) -> Result<(), AllocError>
+fn leave_one(goes: &Bag, row: Row, met: &mut Bag, kept: &mut Vec<Row>) -> Result<(), AllocError>
     ensures { (seen : _) → Stays goes.now seen kept.old.items met.old
         → OnOk result (Stays goes.now (seen ++ row ∷ []) kept.new.items met.new) }
 {

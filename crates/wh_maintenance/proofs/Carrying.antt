@@ -55,9 +55,10 @@ one F G law (Some a) None (Some c) ih o e = absurd (ih a refl)
 one F G law (Some a) (Some a') None ih o e = absurd (ih a refl)
 one F G law (Some a) (Some a') (Some c) ih o e = law a a' o c (ih a refl) e
 
-one_alone : (F : Bag → Option Bag) (G : Change → Option Change) → CarriesOne F (λ a c. G c) → (before now : Option Bag)
-    (found : Option Change) → ((a : Bag) → before ≡ Some a → IsCarried a now found) → (o : Bag)
-    → of_one F before ≡ Some o → IsCarried o (of_one F now) (of_one G found)
+pub one_alone : (F : Bag → Option Bag) (G : Change → Option Change) → CarriesOne F (λ a c. G c)
+    → (before now : Option Bag) (found : Option Change)
+    → ((a : Bag) → before ≡ Some a → IsCarried a now found) → (o : Bag) → of_one F before ≡ Some o
+    → IsCarried o (of_one F now) (of_one G found)
 one_alone F G law None now found ih o e = cc
 one_alone F G law (Some a) None None ih o e = tt
 one_alone F G law (Some a) None (Some c) ih o e = absurd (ih a refl)

@@ -12,3 +12,10 @@ pub mod LinearQuery
 pub mod Three
 pub mod KnownJoin
 pub mod Parts
+pub mod Totals
+pub mod Standing
+pub mod Undefined
+pub mod Bounds
+pub mod Kept
+pub mod Update
+pub mod Known

@@ -21,9 +21,9 @@ over_sides : (f : Row → Option Bag) (comes goes : Option Bag)
     → of_one (carried_over f) (sided comes goes) ≡ sided (of_one (gathered f) comes) (of_one (gathered f) goes)
 over_sides f None goes = refl
 over_sides f (Some c) None = elim (gathered f c) as (λ (o : Option Bag). None ≡ sided o None) [
-    | None ↦ refl
-    | Some x ↦ refl
-  ]
+  | None ↦ refl
+  | Some x ↦ refl
+]
 over_sides f (Some c) (Some g) = refl
 
 sum_of_sides : (c g d h : Option Bag)

@@ -63,9 +63,11 @@ net_of_sides old new comes goes more fewer changed net = record {
 
 pub one_net : (old new comes goes comes' goes' : Bag) → IsNet old new comes goes → IsNet old new comes' goes'
     → (comes ≡ comes') × (goes ≡ goes')
-one_net old new comes goes comes' goes' net net' =
-    (bag_of_same _ _ (λ q. net.added q ∙ sym (net'.added q)), bag_of_same _ _ (λ q. net.removed q
-    ∙ sym (net'.removed q)))
+one_net old new comes goes comes' goes' net net' = (
+  bag_of_same _ _ (λ q. net.added q ∙ sym (net'.added q)),
+  bag_of_same _ _ (λ q. net.removed q
+      ∙ sym (net'.removed q)),
+)
 
 pub turns_to : (old new comes goes : Bag) → IsTurn old new comes goes → new ≡ bags.plus (less old goes) comes
 turns_to old new comes goes turn = bag_of_same _ _ (λ q.
