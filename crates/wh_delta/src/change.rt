@@ -10,7 +10,7 @@ ghost use Rattle.wh_maintenance.specs.Delta.{Carries};
 ghost use Rattle.wh_maintenance.specs.Delta as changes;
 ghost use Rattle.wh_delta.specs.Moves.{change_found};
 ghost use Rattle.wh_delta.specs.Moved.{AreNumbered, HoldsFor};
-ghost use Rattle.wh_delta.specs.Found.{FindsNet};
+ghost use Rattle.wh_delta.specs.Found.{FindsNet, IsApart};
 
 use crate::carrying::carried;
 use crate::moved::{moved, sources_held};
@@ -38,6 +38,7 @@ pub fn delta<F: Fetch>(
         → AreNumbered old.now new.now → IfOk result (λ found. (was : Bag)
         → eval (query_of query.now) (instance_in old.now) ≡ Some was
         → FindsNet was (eval (query_of query.now) (instance_in new.now)) found) }
+    ensures apart { IfOk result IsApart }
     ensures sound { HoldsFor (IsShownBy (F.contents fetch.old)) (query_of query.now) old.now new.now
         → F.damage fetch.new ≡ F.damage fetch.old }
     ensures same { F.contents fetch.new ≡ F.contents fetch.old }

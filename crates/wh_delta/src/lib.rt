@@ -12,5 +12,7 @@ mod moves;
 mod plans;
 mod reading;
 mod staying;
+#[cfg(test)]
+mod worked;
 
 pub use change::delta;

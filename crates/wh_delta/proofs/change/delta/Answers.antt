@@ -1,6 +1,7 @@
 use Rattle.wh_filed.specs.Fetching.{IsShownBy, IsCovered}
 use Rattle.wh_algebra.specs.View.{query_of}
 use Rattle.wh_exec.specs.Source.{instance_in}
+use Rattle.wh_maintenance.proofs.Turns.{net_apart}
 use Rattle.wh_delta.specs.Moves.{change_of}
 use Rattle.wh_delta.proofs.MovedLaws.{moved_turns, moved_filed}
 use Rattle.wh_delta.proofs.FoundLaws.{held_views, net_found, none_found}
@@ -86,3 +87,6 @@ returns-clause-change g c = λ all numbered was is.
     (moved_filed (IsShownBy (g.F.Fetch.contents c.args.fetch.now)) c.deref-4.result.now _ gone all.goes)
     all.stays) c.in_ok-net.ensures (instance_in c.args.new.now)
     (moved_turns c.args.old.now c.args.new.now c.deref-3.result.now c.deref-4.result.now numbered came gone) was is
+
+pub returns-clause-apart : goal.returns-clause-apart
+returns-clause-apart g c = net_apart _ _ _ _ c.in_ok-net.ensures
