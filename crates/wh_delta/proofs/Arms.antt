@@ -9,7 +9,7 @@ use Rattle.wh_part.specs.declared.meta.PartMeta.{PartMeta}
 use Rattle.wh_fetch.specs.declared.fault.FetchFault.{FetchFault}
 use Rattle.wh_filed.proofs.FetchingLaws.{still_covered as covered_on}
 use Rattle.wh_exec.specs.Source.{filed_in}
-use Rattle.wh_meaning.specs.Scalar.{Scalar, of_one, of_two}
+use Rattle.wh_meaning.specs.Scalar.{Scalar, of_two}
 use Rattle.wh_meaning.specs.Bag.{Bag, bag_of}
 use Rattle.wh_meaning.specs.Query.{Query, Scan, Filter, Project, Join, UnionAll, Group, Call, kept_by, image_by, eval}
 use Rattle.wh_maintenance.specs.Carried.{Change, sided, carried_over}

@@ -4,7 +4,7 @@
 --     views_turn        what moved of sources is a turn at each place
 --     moved_turns       so sources with the partitions and rows that moved are changes from one instance to another
 --     all_views, views_held_all     what holds of the partitions that moved holds of those of the sources made of them
-use Rattle.std.specs.Prelude.{◌≡◌, ℕ, zero, suc, Bool, true, nat_eq, List, [], ◌∷◌, ◌++◌, map}
+use Rattle.std.specs.Prelude.{◌≡◌, ℕ, zero, suc, true, nat_eq, List, [], ◌∷◌, ◌++◌, map}
 use Rattle.std.specs.List.{flat_map, AllByRecursion}
 use Rattle.std.proofs.Common.{refl, sym, ap, subst, ◌∙◌, inl, inr}
 use Rattle.std.proofs.lemmas.Bool.Decides.{eqb_tells}
@@ -19,7 +19,7 @@ use Rattle.wh_exec.specs.declared.source.Source.TheVariants.{Parts, Rows}
 use Rattle.wh_exec.specs.Source.{parts_bag, bag_in, instance_in, filed_of, filed_in}
 use Rattle.wh_maintenance.specs.Turn.{IsTurn}
 use Rattle.wh_maintenance.specs.Parts.{IsNaming, AgreesWith, AgreeWith}
-use Rattle.wh_maintenance.specs.Delta.{Sources, AreTurns}
+use Rattle.wh_maintenance.specs.Delta.{AreTurns}
 use Rattle.wh_maintenance.proofs.Parts.{parts_turn}
 use Rattle.wh_delta.specs.Moved.{same_number, only_in, View, view_of, views_of, rows_at, filed_bag, view_bag}
 use Rattle.wh_delta.specs.Moved.{filed_views, moved_of, IsNumbered, AllNumbered, AreNumbered}

@@ -9,8 +9,8 @@
 use Rattle.std.specs.Prelude.{◌≡◌, true, false, Bool, nat_eq, List, [], ◌∷◌, map}
 use Rattle.std.specs.List.{flat_map, AllByRecursion}
 use Rattle.wh_filed.specs.Filed.{Filed, filed_at}
-use Rattle.wh_meaning.specs.Bag.{Bag, no_rows, bag_of, plus}
-use Rattle.wh_meaning.specs.Query.{Query, Instance}
+use Rattle.wh_meaning.specs.Bag.{Bag, bag_of, plus}
+use Rattle.wh_meaning.specs.Query.{Query}
 use Rattle.wh_exec.specs.declared.source.Source.{Source}
 use Rattle.wh_exec.specs.declared.source.Source.TheVariants.{Parts, Rows}
 use Rattle.wh_exec.specs.Source.{parts_bag, filed_in}
