@@ -16,16 +16,18 @@ ghost use Rattle.wh_refresh.specs.Brought.{AreBrought, BringsOneOr, BringsOr, Ma
 ghost use Rattle.wh_refresh.specs.Brought.{IsRebased};
 
 use crate::brought::{Brought, NewRows};
-use crate::evaluation::evaluated;
+use crate::evaluation::{changed, evaluated};
 use crate::objects::{dynamic_at, table_at};
 use crate::rebase::{Rebased, rebase};
-use crate::sources::{has_new_data, sources_held, sources_of};
+use crate::sources::{has_new_data, sources_held, sources_of, sources_stood};
 use std::alloc::Global;
-use wh_bag::Bag;
+use std::sync::Arc;
+use wh_bag::{Bag, apply};
 use wh_catalog::{StoredObject, StoredTable};
 use wh_dynamic::Dynamic;
 use wh_fetch::{Fetch, FetchFault};
 use wh_filed::fetch_all;
+use wh_part::Partition;
 use wh_reply::RefreshAction;
 use wh_table::by_rows;
 
@@ -94,9 +96,18 @@ fn bring<F: Fetch>(
             state,
         }));
     }
-    let Some(rows) = new_rows(alloc, objects, before, moment, dynamic, table, fetch)? else {
+    let bag = match action {
+        RefreshAction::Incremental => {
+            rows_by_change(alloc, objects, before, moment, dynamic, table, fetch)?
+        }
+        RefreshAction::Full | RefreshAction::NoData => {
+            rows_by_query(alloc, objects, before, moment, dynamic, fetch)?
+        }
+    };
+    let Some(rows) = bag else {
         return Ok(None);
     };
+    let rows = new_rows(alloc, table, rows, fetch)?;
     Ok(Some(Brought {
         id,
         action,
@@ -141,13 +152,10 @@ fn by_mode(dynamic: &Dynamic) -> RefreshAction
 // The version that its query makes, or None where it is undefined.
 fn new_rows<F: Fetch>(
     alloc: Global,
-    objects: &[&StoredObject],
-    before: &[Brought],
-    moment: u64,
-    dynamic: &Dynamic,
     table: &StoredTable,
+    rows: Bag,
     fetch: &mut F,
-) -> Result<Option<NewRows>, FetchFault>
+) -> Result<NewRows, FetchFault>
     requires objects { AllCovered (F.covers fetch.old) (filed_at_objects objects.now) }
     requires own { AllCovered (F.covers fetch.old) (filed_of table.now) }
     ensures made { AllShownBy (F.contents fetch.old) (filed_at_objects objects.now)
@@ -164,16 +172,47 @@ fn new_rows<F: Fetch>(
     ensures goes { F.stays fetch.old fetch.new }
     ensures counts { Counts (F.faults fetch.old) (F.faults fetch.new) result }
 {
-    let Some(rows) = rows_by_query(alloc, objects, before, moment, dynamic, fetch)? else {
-        return Ok(None);
-    };
     let Rebased { edits, plus, minus } = rebased(alloc, table, rows, fetch)?;
     let edited = table.edited(alloc, edits, fetch)?;
-    Ok(Some(NewRows {
+    Ok(NewRows {
         edited,
         plus,
         minus,
-    }))
+    })
+}
+
+// What its rows are once what came and went below is carried through its query.
+fn rows_by_change<F: Fetch>(
+    alloc: Global,
+    objects: &[&StoredObject],
+    before: &[Brought],
+    moment: u64,
+    dynamic: &Dynamic,
+    table: &StoredTable,
+    fetch: &mut F,
+) -> Result<Option<Bag>, FetchFault> {
+    let stood = sources_stood(alloc, objects, dynamic.state().moment, dynamic.reads())?;
+    let held = sources_held(alloc, objects, before, moment, dynamic.reads())?;
+    let old = sources_of(alloc, &stood)?;
+    let new = sources_of(alloc, &held)?;
+    let Some(change) = changed(alloc, objects, dynamic.query(), &old, &new, fetch)? else {
+        return Ok(None);
+    };
+    let standing = table.standing(alloc)?;
+    let own = fetch_all(alloc, &standing, fetch)?;
+    let rows = bag_of(alloc, &own)?;
+    let rows = apply(alloc, &rows, &change).map_err(|_| FetchFault::OutOfMemory)?;
+    Ok(Some(rows))
+}
+
+fn bag_of(alloc: Global, partitions: &[Arc<Partition>]) -> Result<Bag, FetchFault> {
+    let mut bag = Bag::new(alloc);
+    for partition in partitions {
+        for numbered in partition.rows() {
+            bag.add(numbered.row.copy(alloc)?, 1).map_err(|_| FetchFault::OutOfMemory)?;
+        }
+    }
+    Ok(bag)
 }
 
 // What its query gives, or None where that is undefined.

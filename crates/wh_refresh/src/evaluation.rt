@@ -15,9 +15,10 @@ ghost use Rattle.wh_refresh.specs.Objects.{objects_in};
 use crate::objects::object_at;
 use std::alloc::{AllocError, Global};
 use wh_algebra::Query;
-use wh_bag::Bag;
+use wh_bag::{Bag, Signed};
 use wh_bind::bind_query;
 use wh_catalog::{StoredObject, named_as};
+use wh_delta::delta;
 use wh_dynamic::{DynamicQuery, NamedSource};
 use wh_exec::{Source, collected};
 use wh_fetch::{Fetch, FetchFault};
@@ -47,6 +48,20 @@ pub(crate) fn evaluated<F: Fetch>(
     let names = names_among(alloc, objects, &query.sources)?;
     let bound = bind_query(alloc, &names, 0, query.tree.get())?;
     evaluated_over(alloc, &bound.get().query, sources, fetch)
+}
+
+/// The change of the rows of a query as its sources changed, or None where it is undefined now.
+pub(crate) fn changed<F: Fetch>(
+    alloc: Global,
+    objects: &[&StoredObject],
+    query: &DynamicQuery,
+    old: &[Source<'_>],
+    new: &[Source<'_>],
+    fetch: &mut F,
+) -> Result<Option<Signed>, FetchFault> {
+    let names = names_among(alloc, objects, &query.sources)?;
+    let bound = bind_query(alloc, &names, 0, query.tree.get())?;
+    delta(alloc, &bound.get().query, old, new, fetch)
 }
 
 fn evaluated_over<F: Fetch>(

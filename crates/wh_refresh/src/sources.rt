@@ -139,3 +139,21 @@ fn has_version_between(
     }
     from < to && new_rows_of(brought, id).is_some()
 }
+
+/// What each source held at an earlier moment.
+pub(crate) fn sources_stood<'a>(
+    alloc: Global,
+    objects: &[&'a StoredObject],
+    moment: u64,
+    ids: &[u32],
+) -> Result<Vec<SourceHeld<'a>>, AllocError> {
+    let mut sources = Vec::new(alloc);
+    for id in ids {
+        let filed = match table_at(objects, *id) {
+            Some(table) => table.standing_at(alloc, moment)?,
+            None => Vec::new(alloc),
+        };
+        sources.push(SourceHeld { filed, made: &[] })?;
+    }
+    Ok(sources)
+}
