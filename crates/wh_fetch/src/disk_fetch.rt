@@ -4,7 +4,7 @@ use crate::kept::Kept;
 use lru::LruCache;
 use std::alloc::{AllocError, Global};
 use std::num::NonZeroUsize;
-use wh_part::PartId;
+use wh_part::{NumberedRow, PartId};
 use wh_world::Disk;
 
 /// How many partitions are kept at most.
@@ -22,6 +22,8 @@ pub struct DiskFetch<D> {
     // How many partitions were found damaged since `begin`, and the position of the last of them.
     pub(crate) spoilt: u64,
     pub(crate) damaged: Option<u64>,
+    // Rows of partitions that are kept no longer, in whose memory others are read.
+    pub(crate) spare: Vec<NumberedRow>,
     ghost most: { cache.cap ≡ 256 },
 }
 
@@ -43,6 +45,7 @@ impl<D: Disk> DiskFetch<D> {
                 asked: Vec::new(alloc),
                 spoilt: 0,
                 damaged: None,
+                spare: Vec::new(alloc),
             }),
             Err(refused) => Err((refused, disk)),
         }

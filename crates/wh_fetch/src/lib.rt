@@ -2,8 +2,6 @@
 #![tactic(auto)]
 
 mod disk_fetch;
-#[cfg(test)]
-mod disk_tests;
 mod fault;
 mod fetch;
 mod kept;

@@ -6,13 +6,15 @@ ghost use Rattle.wh_fetch.specs.Device.{Reads};
 
 use crate::FetchFault;
 use std::alloc::{AllocError, Global};
-use wh_part::{PartMeta, Partition, ReadError};
+use wh_part::{NumberedRow, PartMeta, Partition, ReadError};
 use wh_world::Disk;
 
-/// The partition that is described, read from its place. None where there is none.
+/// The partition that is described, read from its place in the memory of spare rows. None where
+/// there is none.
 pub(crate) fn read_part<D: Disk>(
     disk: &mut D,
     alloc: Global,
+    spare: &mut Vec<NumberedRow>,
     part: &PartMeta,
 ) -> Result<Option<Partition>, FetchFault>
     ensures found { IfOk result (λ found. IfSome found (IsPartAt (D.bytes disk.old) part.now)) }
@@ -23,7 +25,7 @@ pub(crate) fn read_part<D: Disk>(
     let Some(bytes) = read_place(disk, alloc, part.at, part.length)? else {
         return Ok(None);
     };
-    let Some(found) = whole(alloc, bytes.as_slice(), part.columns.len())? else {
+    let Some(found) = whole(alloc, spare, bytes.as_slice(), part.columns.len())? else {
         return Ok(None);
     };
     if !is_described(part, &found) {
@@ -65,13 +67,18 @@ fn read_place<D: Disk>(
 }
 
 // The partition that all of the bytes spell.
-fn whole(alloc: Global, bytes: &[u8], width: usize) -> Result<Option<Partition>, AllocError>
+fn whole(
+    alloc: Global,
+    spare: &mut Vec<NumberedRow>,
+    bytes: &[u8],
+    width: usize,
+) -> Result<Option<Partition>, AllocError>
     ensures { IfOk result (λ found. found ≡ spelled width bytes.now) }
 {
     let Ok(width) = u32::try_from(width) else {
         return Ok(None);
     };
-    match Partition::read(alloc, bytes, width) {
+    match Partition::read_over(alloc, spare, bytes, width) {
         Ok((part, [])) => Ok(Some(part)),
         Ok(_) | Err(ReadError::Malformed) => Ok(None),
         Err(ReadError::Memory) => Err(AllocError),

@@ -6,7 +6,7 @@ ghost use Rattle.wh_fetch.specs.Fetch.{Asks, ReadsOnceEach};
 ghost use Rattle.wh_fetch.specs.Place.{IsPartAt};
 ghost use Rattle.wh_fetch.specs.Cache.{IsKept, Keeps};
 ghost use Rattle.wh_fetch.specs.Device.{OnlyRead, ReadsOnce, Counts};
-ghost use Rattle.wh_fetch.specs.DiskFetch.{told_of, faults_of, IsRight, IsLater};
+ghost use Rattle.wh_fetch.specs.DiskFetch.{told_of, faults_of, damage_of, IsRight, IsLater};
 ghost use Rattle.wh_fetch.specs.DiskFetch.{IsSound, IsSpoilt};
 
 use crate::kept::{Kept, recall};
@@ -59,7 +59,7 @@ impl<D: Disk> DiskFetch<D> {
             ⊎ IsSpoilt D.Disk self.old self.new part.now result }
     {
         let alloc = *self.asked.allocator();
-        let Some(found) = read_part(&mut self.disk, alloc, part)? else {
+        let Some(found) = read_part(&mut self.disk, alloc, &mut self.spare, part)? else {
             self.spoilt = self.spoilt.saturating_add(1);
             self.damaged = Some(part.at);
             return Err(FetchFault::Read);
@@ -74,8 +74,24 @@ impl<D: Disk> DiskFetch<D> {
             width: part.columns.len(),
             part: shared,
         };
-        self.cache.put(part.at, kept)?;
+        let gone = self.cache.push(part.at, kept)?;
+        self.reuse(gone);
         Ok(given)
+    }
+
+    // The rows of what is kept no longer are spare, unless they are still in use.
+    fn reuse(&mut self, gone: Option<(u64, Kept)>)
+        ensures kept { self.new.cache ≡ self.old.cache }
+        ensures disk { (self.new.disk ≡ self.old.disk) × (self.new.reach ≡ self.old.reach) }
+        ensures asked { self.new.asked ≡ self.old.asked }
+        ensures damage { damage_of self.new ≡ damage_of self.old }
+    {
+        let Some((_, Kept { part, .. })) = gone else {
+            return;
+        };
+        if let Some(part) = Arc::into_inner(part) {
+            self.spare = part.into_rows();
+        }
     }
 }
 

@@ -1,4 +1,4 @@
-ghost use Rattle.std.specs.Prelude.{◌≡◌, map, nat_le};
+ghost use Rattle.std.specs.Prelude.{◌≡◌, [], ◌∷◌, ◌++◌, map, nat_le, IfOk, OnOk};
 ghost use Rattle.wh_part.specs.Reading.{Gives, items_at};
 ghost use Rattle.wh_part.specs.Decoding.{whole_number_at, value_at, row_at, row_count_at, rows_at};
 ghost use Rattle.wh_part.specs.Decoding.{partition_at, least_after, rises_from};
@@ -47,26 +47,66 @@ fn read_value(alloc: Global, bytes: &[u8]) -> Result<(Value, &[u8]), ReadError>
     }
 }
 
-fn read_values(alloc: Global, width: u32, bytes: &[u8]) -> Result<(Row, &[u8]), ReadError>
+/// No value yet, in the memory of a spare row or with memory for so many.
+fn no_values(
+    alloc: Global,
+    count: usize,
+    spare: &mut Vec<NumberedRow>,
+) -> Result<Vec<Value>, AllocError>
+    ensures { IfOk result (λ values. values.items ≡ []) }
+{
+    match spare.pop() {
+        Some(numbered) => {
+            let mut values = numbered.row.into_values();
+            values.clear();
+            Ok(values)
+        }
+        None => Vec::with_capacity(alloc, count),
+    }
+}
+
+/// Puts a value behind the others, where it stands if there is room.
+fn put(values: &mut Vec<Value>, value: Value) -> Result<(), AllocError>
+    ensures { OnOk result (values.new.items ≡ values.old.items ++ value ∷ []) }
+{
+    if values.len() < values.capacity() {
+        values.push_reserved(value);
+        return Ok(());
+    }
+    values.push(value)?;
+    Ok(())
+}
+
+fn read_values<'a>(
+    alloc: Global,
+    width: u32,
+    spare: &mut Vec<NumberedRow>,
+    bytes: &'a [u8],
+) -> Result<(Row, &'a [u8]), ReadError>
     ensures { Gives (λ x. (x.0, x.1.now)) result (items_at value_at width bytes.now) }
 {
     // each value has a byte at least
-    let mut row = Row::with_capacity(alloc, (width as usize).min(bytes.len()))?;
+    let mut values = no_values(alloc, (width as usize).min(bytes.len()), spare)?;
     let mut rest = bytes;
     for _ in 0..width {
         let (value, after) = read_value(alloc, rest)?;
-        row.push(value)?;
+        put(&mut values, value)?;
         rest = after;
     }
-    Ok((row, rest))
+    Ok((Row::of(values), rest))
 }
 
 #[tactic(auto, unfolding(crate::specs::Decoding::row_at))]
-fn read_row(alloc: Global, width: u32, bytes: &[u8]) -> Result<(NumberedRow, &[u8]), ReadError>
+fn read_row<'a>(
+    alloc: Global,
+    width: u32,
+    spare: &mut Vec<NumberedRow>,
+    bytes: &'a [u8],
+) -> Result<(NumberedRow, &'a [u8]), ReadError>
     ensures { Gives (λ x. (numbered_of x.0, x.1.now)) result (row_at width bytes.now) }
 {
     let (number, rest) = read_u64(bytes)?;
-    let (row, rest) = read_values(alloc, width, rest)?;
+    let (row, rest) = read_values(alloc, width, spare, rest)?;
     Ok((NumberedRow { number, row }, rest))
 }
 
@@ -81,19 +121,21 @@ pub(crate) fn read_row_count(bytes: &[u8]) -> Result<(u32, &[u8]), ReadError>
     Ok((count, rest))
 }
 
-fn read_counted(
+fn read_counted<'a>(
     alloc: Global,
     width: u32,
     count: u32,
-    bytes: &[u8],
-) -> Result<(Vec<NumberedRow>, &[u8]), ReadError>
+    spare: &mut Vec<NumberedRow>,
+    bytes: &'a [u8],
+) -> Result<(Vec<NumberedRow>, &'a [u8]), ReadError>
     ensures { Gives (λ x. (map numbered_of x.0.items, x.1.now)) result
         (items_at (row_at width) count bytes.now) }
 {
-    let mut rows = Vec::new(alloc);
+    // each row has eight bytes at least
+    let mut rows = Vec::with_capacity(alloc, (count as usize).min(bytes.len() / 8))?;
     let mut rest = bytes;
     for _ in 0..count {
-        let (numbered, after) = read_row(alloc, width, rest)?;
+        let (numbered, after) = read_row(alloc, width, spare, rest)?;
         rows.push(numbered)?;
         rest = after;
     }
@@ -125,15 +167,16 @@ fn rises(rows: &[NumberedRow]) -> bool
 }
 
 #[tactic(auto, unfolding(crate::specs::Decoding::rows_at))]
-fn read_rows(
+fn read_rows<'a>(
     alloc: Global,
     width: u32,
-    bytes: &[u8],
-) -> Result<(Vec<NumberedRow>, &[u8]), ReadError>
+    spare: &mut Vec<NumberedRow>,
+    bytes: &'a [u8],
+) -> Result<(Vec<NumberedRow>, &'a [u8]), ReadError>
     ensures { Gives (λ x. (map numbered_of x.0.items, x.1.now)) result (rows_at width bytes.now) }
 {
     let (count, rest) = read_row_count(bytes)?;
-    let (rows, rest) = read_counted(alloc, width, count, rest)?;
+    let (rows, rest) = read_counted(alloc, width, count, spare, rest)?;
     if !rises(&rows) {
         return Err(ReadError::Malformed);
     }
@@ -150,12 +193,25 @@ impl Partition {
 
     /// The partition at the front of the bytes, each row with `width` values, and the bytes behind
     /// it.
-    #[tactic(auto, unfolding(crate::specs::Decoding::partition_at))]
     pub fn read(alloc: Global, bytes: &[u8], width: u32) -> Result<(Partition, &[u8]), ReadError>
         ensures { Gives (λ x. (x.0, x.1.now)) result (partition_at width bytes.now) }
     {
+        let mut spare = Vec::new(alloc);
+        Partition::read_over(alloc, &mut spare, bytes, width)
+    }
+
+    /// The same, in the memory of spare rows, from the last one on.
+    #[tactic(auto, unfolding(crate::specs::Decoding::partition_at))]
+    pub fn read_over<'a>(
+        alloc: Global,
+        spare: &mut Vec<NumberedRow>,
+        bytes: &'a [u8],
+        width: u32,
+    ) -> Result<(Partition, &'a [u8]), ReadError>
+        ensures { Gives (λ x. (x.0, x.1.now)) result (partition_at width bytes.now) }
+    {
         let (number, rest) = read_u64(bytes)?;
-        let (rows, rest) = read_rows(alloc, width, rest)?;
+        let (rows, rest) = read_rows(alloc, width, spare, rest)?;
         Ok((Partition::make(number, rows), rest))
     }
 

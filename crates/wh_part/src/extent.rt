@@ -2,7 +2,7 @@
 ghost use Rattle.std.specs.Prelude.{◌≡◌};
 ghost use Rattle.wh_value.specs.View.{type_of};
 ghost use Rattle.wh_part.specs.Extent.{seen_value, types_of, both_types, fits_by};
-ghost use Rattle.wh_part.specs.Extent.{extent_of, started, absorbed, lesser, greater};
+ghost use Rattle.wh_part.specs.Extent.{extent_of, started, absorbed};
 
 use crate::seen::{Seen, is_less};
 use wh_value::ColumnType;
@@ -67,25 +67,15 @@ pub(crate) fn started<'a>(seen: Seen<'a>) -> Extent<'a>
     }
 }
 
-fn lesser<'a>(x: Seen<'a>, y: Seen<'a>) -> Seen<'a>
-    ensures { seen_value result ≡ lesser (seen_value x.entry) (seen_value y.entry) }
-{
-    if is_less(y, x) { y } else { x }
-}
-
-fn greater<'a>(x: Seen<'a>, y: Seen<'a>) -> Seen<'a>
-    ensures { seen_value result ≡ greater (seen_value x.entry) (seen_value y.entry) }
-{
-    if is_less(x, y) { y } else { x }
-}
-
 /// With one value more.
-pub(crate) fn absorbed<'a>(extent: Extent<'a>, seen: Seen<'a>) -> Extent<'a>
-    ensures { extent_of result ≡ absorbed (extent_of extent.entry) (seen_value seen.entry) }
+pub(crate) fn absorb<'a>(extent: &mut Extent<'a>, seen: Seen<'a>)
+    ensures { extent_of extent.new ≡ absorbed (extent_of extent.old) (seen_value seen.entry) }
 {
-    Extent {
-        least: lesser(extent.least, seen),
-        greatest: greater(extent.greatest, seen),
-        types: both(extent.types, types_of(seen)),
+    if is_less(seen, extent.least) {
+        extent.least = seen;
     }
+    if is_less(extent.greatest, seen) {
+        extent.greatest = seen;
+    }
+    extent.types = both(extent.types, types_of(seen));
 }

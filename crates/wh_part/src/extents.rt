@@ -6,7 +6,7 @@ ghost use Rattle.wh_part.specs.Extent.{seen_value, extent_of, started, row_absor
 ghost use Rattle.wh_part.specs.Holding.{sides_of};
 ghost use Rattle.wh_part.specs.Outline.{ends_of, types_in};
 
-use crate::extent::{Extent, Types, absorbed, started};
+use crate::extent::{Extent, Types, absorb, started};
 use crate::seen::{Seen, owned};
 use crate::{Bounds, NumberedRow};
 use std::alloc::{AllocError, Global};
@@ -40,7 +40,7 @@ fn absorb_row<'a>(extents: &mut [Extent<'a>], values: &'a [Value])
         ≡ row_absorbed (map extent_of extents.old) (map value_of values.now) }
 {
     for place in 0..extents.len().min(values.len()) {
-        extents[place] = absorbed(extents[place], seen_in(&values[place]));
+        absorb(&mut extents[place], seen_in(&values[place]));
     }
 }
 

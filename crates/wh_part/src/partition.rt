@@ -69,6 +69,14 @@ impl Partition {
         self.rows.as_slice()
     }
 
+    /// The rows, on their own.
+    pub fn into_rows(self) -> Vec<NumberedRow>
+        ensures { map numbered_of result.items ≡ self.rows }
+    {
+        let Partition { rows, .. } = self;
+        rows
+    }
+
     /// The number of the first row.
     pub fn first(&self) -> u64
         ensures { result ≡ first_number self.now.rows }

@@ -44,12 +44,14 @@ pub(crate) fn see<'a>(bytes: &'a [u8]) -> Result<(Seen<'a>, &'a [u8]), ReadError
     }
 }
 
-/// Whether a value stands before another in the value order.
+/// Whether a value stands before another in the value order: numbers first, which most values are.
 pub(crate) fn is_less(x: Seen<'_>, y: Seen<'_>) -> bool
     ensures { result ≡ is_lt (value_cmp (seen_value x.entry) (seen_value y.entry)) }
 {
+    if let (Seen::Number(x), Seen::Number(y)) = (x, y) {
+        return x < y;
+    }
     match (x, y) {
-        (Seen::Number(x), Seen::Number(y)) => x < y,
         (Seen::Number(_), _) => true,
         (Seen::Bool(_), Seen::Number(_)) => false,
         (Seen::Bool(x), Seen::Bool(y)) => !x & y,

@@ -8,7 +8,7 @@ ghost use Rattle.wh_part.specs.Sketch.{sketched};
 
 use crate::ReadError;
 use crate::decoding::read_row_count;
-use crate::extent::{Extent, absorbed, started};
+use crate::extent::{Extent, absorb, started};
 use crate::reading::read_u64;
 use crate::seen::see;
 use std::alloc::Global;
@@ -48,7 +48,7 @@ fn absorb_each<'a>(extents: &mut [Extent<'a>], bytes: &'a [u8]) -> Result<&'a [u
     let mut rest = bytes;
     for place in 0..extents.len() {
         let (seen, after) = see(rest)?;
-        extents[place] = absorbed(extents[place], seen);
+        absorb(&mut extents[place], seen);
         rest = after;
     }
     Ok(rest)

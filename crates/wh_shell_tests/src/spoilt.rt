@@ -49,7 +49,7 @@ fn is_read(
         rt,
         alloc,
         &[
-            b"CREATE TABLE T(K NUMBER); INSERT INTO T VALUES ",
+            b"CREATE TABLE T(K NUMBER); CREATE TABLE E(K NUMBER); INSERT INTO T VALUES ",
             rows,
             b"; ",
             statement,
@@ -61,9 +61,28 @@ fn is_read(
     if found.status.code() == 10 {
         return true;
     }
-    let replies = joined(rt, alloc, &[b"CREATED TABLE T\nINSERTED 2\n", nothing]);
+    let replies = joined(
+        rt,
+        alloc,
+        &[b"CREATED TABLE T\nCREATED TABLE E\nINSERTED 2\n", nothing],
+    );
     assert_eq!(rt; found.out.held(), replies.as_slice());
     false
+}
+
+// Whether each statement reads the partition for each condition as it is told.
+fn all_are_read_so(
+    rt: &(impl Abort + Threads + Sync),
+    alloc: Global,
+    bounds: &[Bound],
+    statements: &[Passing],
+) {
+    for (rows, condition, read) in bounds {
+        for (statement, nothing) in statements {
+            let stops = is_read(rt, alloc, statement, rows, condition, nothing);
+            assert!(rt; stops == *read);
+        }
+    }
 }
 
 #[test]
@@ -72,6 +91,17 @@ fn a_partition_is_passed_over_where_no_row_can_meet_the_condition(rt: HostRuntim
         (b"SELECT K FROM T WHERE ", b"K\n(0 rows)\n"),
         (b"UPDATE T SET K = 5 WHERE ", b"UPDATED 0\n"),
         (b"DELETE FROM T WHERE ", b"DELETED 0\n"),
+    ];
+    // The condition goes to the side of T.
+    const JOINS: &[Passing] = &[
+        (
+            b"SELECT K FROM T JOIN (SELECT COUNT(*) AS N FROM E) R ON TRUE WHERE ",
+            b"K\n(0 rows)\n",
+        ),
+        (
+            b"SELECT K FROM (SELECT COUNT(*) AS N FROM E) L JOIN T ON TRUE WHERE ",
+            b"K\n(0 rows)\n",
+        ),
     ];
     const BOUNDS: &[Bound] = &[
         (b"(5), (7)", b"K < 5", false),
@@ -88,10 +118,6 @@ fn a_partition_is_passed_over_where_no_row_can_meet_the_condition(rt: HostRuntim
         (b"(5), (7)", b"K = 8", false),
         (b"(5), (5)", b"K <> 5", false),
         (b"(5), (7)", b"K <> 5", true),
-        (b"(5), (7)", b"K = -1", false),
-        (b"(-7), (5)", b"K = -1", true),
-        (b"(-7), (-5)", b"-4 <= K", false),
-        (b"(5), (7)", b"K < -(K)", true),
         (b"(5), (7)", b"5 > K", false),
         (b"(5), (7)", b"5 >= K", true),
         (b"(5), (7)", b"7 < K", false),
@@ -107,13 +133,17 @@ fn a_partition_is_passed_over_where_no_row_can_meet_the_condition(rt: HostRuntim
         (b"(5), (7)", b"K < 5 OR K > 6", true),
         (b"(5), (7)", b"NOT K >= 5", true),
     ];
+    // A minus sign is arithmetic, which stays above a Join.
+    const SIGNED: &[Bound] = &[
+        (b"(5), (7)", b"K = -1", false),
+        (b"(-7), (5)", b"K = -1", true),
+        (b"(-7), (-5)", b"-4 <= K", false),
+        (b"(5), (7)", b"K < -(K)", true),
+    ];
     let alloc = rt.alloc();
-    for (rows, condition, read) in BOUNDS {
-        for (statement, nothing) in STATEMENTS {
-            let stops = is_read(&rt, alloc, statement, rows, condition, nothing);
-            assert!(rt; stops == *read);
-        }
-    }
+    all_are_read_so(&rt, alloc, BOUNDS, STATEMENTS);
+    all_are_read_so(&rt, alloc, BOUNDS, JOINS);
+    all_are_read_so(&rt, alloc, SIGNED, STATEMENTS);
 }
 
 // How often rows are read by SELECTs, in a run that has made so many partitions of one row.

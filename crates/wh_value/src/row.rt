@@ -60,6 +60,21 @@ impl Row {
         Ok(())
     }
 
+    /// The row of these values.
+    pub fn of(values: Vec<Value>) -> Row
+        ensures { result ≡ map value_of values.items }
+    {
+        Row { values }
+    }
+
+    /// Its values, on their own.
+    pub fn into_values(self) -> Vec<Value>
+        ensures { map value_of result.items ≡ self }
+    {
+        let Row { values } = self;
+        values
+    }
+
     pub fn values(&self) -> &[Value]
         ensures { map value_of result.now ≡ self.now }
     {

@@ -9,7 +9,7 @@ use Rattle.wh_part.proofs.decoding.read_counted.Goals as goal
 
 pub returns-in_err-numbered : goal.returns-in_err-numbered
 returns-in_err-numbered c =
-    let p = err_from_is_err_and c.from_residual.result c.from_residual.ensures.1 in
+    let p = err_from_is_err_and c.from_residual-in_err-numbered.result c.from_residual-in_err-numbered.ensures.1 in
     rw (p.1, p.2) (ends (row_at c.args.width) c.in_err-numbered.field-0.0 (map numbered_of c.loop.rows.items)
     c.args.count c.loop.counter c.loop.rest.now (items_at (row_at c.args.width) c.args.count c.args.bytes.now)
     c.loop-test.true c.in_err-numbered.ensures c.loop.invariant)

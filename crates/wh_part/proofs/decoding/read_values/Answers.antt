@@ -1,4 +1,6 @@
+use Rattle.std.proofs.Common.{◌≡◌, ◌++◌, ◌∷◌, [], map}
 use Rattle.std.proofs.lemmas.Result.{err_from_is_err_and}
+use Rattle.std.proofs.lemmas.List.{map_push}
 use Rattle.wh_value.specs.View.{value_of}
 use Rattle.wh_part.specs.Reading.{items_at}
 use Rattle.wh_part.specs.Decoding.{value_at}
@@ -8,15 +10,20 @@ use Rattle.wh_part.proofs.decoding.read_values.Goals as goal
 pub returns-in_err-value : goal.returns-in_err-value
 returns-in_err-value c =
     let p = err_from_is_err_and c.from_residual-in_err-value.result c.from_residual-in_err-value.ensures.1 in
-    rw (p.1, p.2) (ends value_at c.in_err-value.field-0.0 c.loop.row c.args.width c.loop.counter c.loop.rest.now
-    (items_at value_at c.args.width c.args.bytes.now) c.loop-test.true c.in_err-value.ensures c.loop.invariant)
+    rw (p.1, p.2) (ends value_at c.in_err-value.field-0.0 (map value_of c.loop.values.items) c.args.width
+    c.loop.counter c.loop.rest.now (items_at value_at c.args.width c.args.bytes.now) c.loop-test.true
+    c.in_err-value.ensures c.loop.invariant)
 
 pub loop-preserved : goal.loop-preserved
 loop-preserved c =
-    rw (c.in_ok-push.ensures.ok) (goes_on value_at c.loop.row c.args.width c.loop.counter c.loop.rest.now
-    (value_of c.in_ok-value.value) c.in_ok-value.after.now
-    (items_at value_at c.args.width c.args.bytes.now) c.loop-test.true c.in_ok-value.ensures c.loop.invariant)
+    let read = c.in_ok-value.value in
+    let e : map value_of c.put.new.values.items ≡ map value_of c.loop.values.items ++ value_of read ∷ [] =
+    rw c.in_ok-put.ensures (map_push _ c.loop.values.items read) in
+    rw e (goes_on value_at (map value_of c.loop.values.items) c.args.width c.loop.counter c.loop.rest.now
+    (value_of read) c.in_ok-value.after.now (items_at value_at c.args.width c.args.bytes.now)
+    c.loop-test.true c.in_ok-value.ensures c.loop.invariant)
 
 pub returns : goal.returns
-returns c = is_done value_at c.loop.row c.args.width c.loop.counter c.loop.rest.now
-    (items_at value_at c.args.width c.args.bytes.now) c.loop-test.false c.loop.invariant
+returns c =
+    rw c.of.ensures (is_done value_at (map value_of c.loop.values.items) c.args.width c.loop.counter c.loop.rest.now
+    (items_at value_at c.args.width c.args.bytes.now) c.loop-test.false c.loop.invariant)

@@ -16,9 +16,9 @@ loop-place-preserved c =
     get_or-map value_of c.args.values.now place _ Null (omega (arith, inside, length-map c.args.values.now value_of))
     ∙ ap value_of (sym c.index-values-place.is) ∙ sym c.seen_in.ensures in
     record {
-      count = length-set extents place c.absorbed.result ∙ c.loop-place.invariant.count;
-      made = row_more extents place _ c.absorbed.result row _ within
-          (drop_more row place Null inside ∙ ap (λ (v : Value). v ∷ drop (place + 1) row) read) c.absorbed.ensures ∙ c.loop-place.invariant.made;
+      count = length-set extents place c.absorb.new.extent ∙ c.loop-place.invariant.count;
+      made = row_more extents place _ c.absorb.new.extent row _ within
+          (drop_more row place Null inside ∙ ap (λ (v : Value). v ∷ drop (place + 1) row) read) c.absorb.ensures ∙ c.loop-place.invariant.made;
     }
 
 pub returns : goal.returns

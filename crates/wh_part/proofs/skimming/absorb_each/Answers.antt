@@ -16,11 +16,11 @@ returns-in_err-seen c =
 pub loop-place-preserved : goal.loop-place-preserved
 loop-place-preserved c =
     record {
-      count = length-set c.loop-place.extents c.loop-place.place c.absorbed.result ∙ c.loop-place.invariant.count;
-      read = absorbed_more c.loop-place.extents c.loop-place.place _ c.absorbed.result c.loop-place.rest.now
+      count = length-set c.loop-place.extents c.loop-place.place c.absorb.new.extent ∙ c.loop-place.invariant.count;
+      read = absorbed_more c.loop-place.extents c.loop-place.place _ c.absorb.new.extent c.loop-place.rest.now
           c.in_ok-seen.after.now (seen_value c.in_ok-seen.seen)
           (absorbs_at (map extent_of c.args.extents.now) c.args.bytes.now)
-          (omega (arith, c.loop-place-test.true, c.loop-place.invariant.count)) c.in_ok-seen.ensures c.absorbed.ensures
+          (omega (arith, c.loop-place-test.true, c.loop-place.invariant.count)) c.in_ok-seen.ensures c.absorb.ensures
           c.loop-place.invariant.read;
     }
 

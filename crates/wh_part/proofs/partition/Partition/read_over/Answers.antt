@@ -2,7 +2,7 @@ use Rattle.std.proofs.Common.{arith}
 use Rattle.std.proofs.lemmas.List.{length-map}
 use Rattle.wh_part.specs.View.{numbered_of}
 use Rattle.wh_part.proofs.PartitionLaws.{rows_read}
-use Rattle.wh_part.proofs.partition.Partition.read.Goals as goal
+use Rattle.wh_part.proofs.partition.Partition.read_over.Goals as goal
 
 pub make-requires : goal.make-requires
 make-requires c =
