@@ -1,4 +1,4 @@
--- Orders, and two tables that keep themselves: totals by item, and the items that sell well.
+-- Orders, and two tables that keep themselves: totals by item, and the items that sell well. A third one has bills.
 CREATE TABLE ORDERS(ID NUMBER, ITEM VARCHAR, AMOUNT NUMBER);
 INSERT INTO ORDERS VALUES (1, 'bolt', 250), (2, 'nut', 100), (3, 'bolt', 75);
 -- The first is refreshed with what reads it; the second asks for both every minute.
@@ -38,3 +38,15 @@ DROP DYNAMIC TABLE BEST;
 -- Nothing asks for the totals any more.
 !tick 1000000
 SELECT * FROM TOTALS;
+-- A join keeps itself too. What comes on one side meets what stands on the other.
+CREATE TABLE PRICES(ITEM VARCHAR, PRICE NUMBER);
+INSERT INTO PRICES VALUES ('nut', 2), ('screw', 3);
+CREATE DYNAMIC TABLE BILLS TARGET_LAG = '1 minute' REFRESH_MODE = INCREMENTAL WAREHOUSE = W
+  AS SELECT O.ID, O.AMOUNT * P.PRICE AS BILL FROM ORDERS O JOIN PRICES P ON O.ITEM = P.ITEM;
+SELECT * FROM BILLS;
+-- A new order is one more bill, and a new price changes the bills of its item alone.
+INSERT INTO ORDERS VALUES (7, 'nut', 10);
+!tick 1008000
+UPDATE PRICES SET PRICE = 4 WHERE ITEM = 'nut';
+!tick 1056000
+SELECT * FROM BILLS;

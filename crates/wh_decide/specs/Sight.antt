@@ -2,10 +2,12 @@
 --     machine_in      the machine at the statement's stamp
 --     objects_seen    the objects as the session sees them
 --     IsShown         what is told of the file's partitions is what they were
+--     IsSound         the file's state is sound
 --     Comes           a decision comes to that outcome of it
 --     IsReady         a decision can be carried out
 --     commit_meant    the commit of an outcome, where it makes one
 use Rattle.std.specs.Prelude.{ℕ, List, Option, option_map}
+use Rattle.wh_state.specs.Sound.{Sound}
 use Rattle.wh_state.specs.State.{Object, stamped}
 use Rattle.wh_state.specs.Commit.{Commit}
 use Rattle.wh_state.specs.Written.{commit_for}
@@ -27,6 +29,9 @@ objects_seen sight = reading.objects_seen (machine_in sight) sight.session
 -- where the bytes of the file are told
 abbrev pub IsShown : Option (List ℕ) → Sight → Type 0
 IsShown told sight = AllShown told (filed_of sight.catalog.now)
+
+abbrev pub IsSound : Sight → Type 0
+IsSound sight = Sound (state_of sight.catalog.now)
 
 abbrev pub Comes : Sight → Decision → Outcome → Type 0
 Comes sight decision outcome =

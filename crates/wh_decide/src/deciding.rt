@@ -8,7 +8,7 @@ ghost use Rattle.wh_machine.specs.Statements.{carried_out};
 ghost use Rattle.wh_stmt_parse.specs.Request.{request_of};
 ghost use Rattle.wh_ddl_bind.specs.View.{bound_of};
 ghost use Rattle.wh_decide.specs.Definitions.{earlier_refusal, reads_rows, IsMeantRead};
-ghost use Rattle.wh_decide.specs.Sight.{machine_in, IsShown, Comes, IsReady};
+ghost use Rattle.wh_decide.specs.Sight.{machine_in, IsShown, IsSound, Comes, IsReady};
 
 use crate::altering::{drop_task, execute_task, resume_task, suspend_task};
 use crate::changes::change_rows;
@@ -42,7 +42,7 @@ pub fn decide_command<D: Disk>(
     fetch: &mut DiskFetch<D>,
 ) -> Result<Decision, FetchFault>
     requires { IsRight D.Disk fetch.old }
-    ensures comes { IsShown (told_of D.Disk fetch.old) sight.now
+    ensures comes { IsShown (told_of D.Disk fetch.old) sight.now → IsSound sight.now
         → IfOk result (λ decision. Comes sight.now decision
         (commanded (machine_in sight.now) sight.now.session (request_of text.now))) }
     ensures ready { IfOk result (λ decision. IsReady sight.now decision) }
@@ -75,7 +75,7 @@ fn decide_tree<D: Disk>(
     fetch: &mut DiskFetch<D>,
 ) -> Result<Decision, FetchFault>
     requires { IsRight D.Disk fetch.old }
-    ensures comes { IsShown (told_of D.Disk fetch.old) sight.now
+    ensures comes { IsShown (told_of D.Disk fetch.old) sight.now → IsSound sight.now
         → IfOk result (λ decision. Comes sight.now decision
         (commanded (machine_in sight.now) sight.now.session (Asked statement.now))) }
     ensures ready { (text : List ℕ) → Spells text statement.now
@@ -150,7 +150,7 @@ fn decide_bound<D: Disk>(
     fetch: &mut DiskFetch<D>,
 ) -> Result<Decision, FetchFault>
     requires { IsRight D.Disk fetch.old }
-    ensures comes { IsShown (told_of D.Disk fetch.old) sight.now
+    ensures comes { IsShown (told_of D.Disk fetch.old) sight.now → IsSound sight.now
         → IfOk result (λ decision. Comes sight.now decision
         (carried_out (machine_in sight.now) sight.now.session None (bound_of statement))) }
     ensures ready { IsMeantRead sight.now (bound_of statement)

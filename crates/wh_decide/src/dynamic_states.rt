@@ -16,7 +16,7 @@ ghost use Rattle.wh_catalog.specs.Catalog.{stored_of, state_of};
 ghost use Rattle.wh_refresh.specs.Refreshing.{besides, RefreshesAs, AreRead};
 ghost use Rattle.wh_decide.specs.Dynamics.{put_written, put_written_to};
 ghost use Rattle.wh_decide.specs.Dynamics.{resumed_state, suspended_state, lag_state};
-ghost use Rattle.wh_decide.specs.Sight.{machine_in, IsShown, Comes, IsReady};
+ghost use Rattle.wh_decide.specs.Sight.{machine_in, IsShown, IsSound, Comes, IsReady};
 
 use crate::decision::Decision;
 use crate::definitions::{defined, definition_refusal, tested};
@@ -202,7 +202,7 @@ pub(crate) fn refresh_dynamic<D: Disk>(
     fetch: &mut DiskFetch<D>,
 ) -> Result<Decision, FetchFault>
     requires { IsRight D.Disk fetch.old }
-    ensures comes { IsShown (told_of D.Disk fetch.old) sight.now
+    ensures comes { IsShown (told_of D.Disk fetch.old) sight.now → IsSound sight.now
         → IfOk result (λ decision. Comes sight.now decision
         (defines (machine_in sight.now) sight.now.session None
         (machine.refresh_dynamic (machine_in sight.now) None id))) }
@@ -245,7 +245,7 @@ fn refreshing<D: Disk>(
     fetch: &mut DiskFetch<D>,
 ) -> Result<Refreshing, FetchFault>
     requires { IsRight D.Disk fetch.old }
-    ensures refreshes { IsShown (told_of D.Disk fetch.old) sight.now
+    ensures refreshes { IsShown (told_of D.Disk fetch.old) sight.now → IsSound sight.now
         → IfOk result (λ found. RefreshesAs sight.now.stamp
         (stored_of sight.now.catalog.now).objects found
         (refreshes.refresh (machine_in sight.now).state
@@ -272,7 +272,7 @@ pub fn scheduled_refresh<D: Disk>(
     fetch: &mut DiskFetch<D>,
 ) -> Result<Decision, FetchFault>
     requires { IsRight D.Disk fetch.old }
-    ensures comes { IsShown (told_of D.Disk fetch.old) sight.now
+    ensures comes { IsShown (told_of D.Disk fetch.old) sight.now → IsSound sight.now
         → IfOk result (λ decision. Comes sight.now decision
         (machine.scheduled (machine_in sight.now) id target)) }
     ensures ready { IfOk result (λ decision. IsReady sight.now decision) }

@@ -34,7 +34,7 @@ ghost use Rattle.wh_decide.specs.Dynamics.{new_stored, stored_with, dynamic_chan
 ghost use Rattle.wh_decide.specs.Dynamics.{new_dynamic_in, new_limit_refusal, FitsLimits};
 ghost use Rattle.wh_decide.specs.Dynamics.{HasSpelledQuery, initialized_in, IsFirstRefresh};
 ghost use Rattle.wh_table.specs.Table.{table_of, filed_of};
-ghost use Rattle.wh_decide.specs.Sight.{machine_in, IsShown, Comes, IsReady};
+ghost use Rattle.wh_decide.specs.Sight.{machine_in, IsShown, IsSound, Comes, IsReady};
 
 use crate::decision::Decision;
 use crate::definitions::{count_refusal, defined, definition_refusal, drop_object, is_long};
@@ -70,7 +70,7 @@ pub(crate) fn create_dynamic<D: Disk>(
     fetch: &mut DiskFetch<D>,
 ) -> Result<Decision, FetchFault>
     requires { IsRight D.Disk fetch.old }
-    ensures comes { IsShown (told_of D.Disk fetch.old) sight.now
+    ensures comes { IsShown (told_of D.Disk fetch.old) sight.now → IsSound sight.now
         → IfOk result (λ decision. Comes sight.now decision
         (defines (machine_in sight.now) sight.now.session None
         (machine.create_dynamic (machine_in sight.now) None (new_dynamic_table_of table.now)))) }
@@ -99,7 +99,7 @@ fn new_dynamic<D: Disk>(
     requires right { IsRight D.Disk fetch.old }
     requires fits { FitsLimits table.now }
     requires room { length (stored_of sight.now.catalog.now).objects + 1 ≤ bound limits.ObjectIds }
-    ensures comes { IsShown (told_of D.Disk fetch.old) sight.now
+    ensures comes { IsShown (told_of D.Disk fetch.old) sight.now → IsSound sight.now
         → IfOk result (λ decision. Comes sight.now decision
         (initialized_in sight.now table.now table.now.initialize)) }
     ensures ready { HasSpelledQuery table.now → IfOk result (λ d. IsReady sight.now d) }
@@ -134,7 +134,7 @@ fn initialized<D: Disk>(
     requires change { dynamic_change_of change
         ≡ dynamic_change (length (stored_of sight.now.catalog.now).objects)
         (new_dynamic_table_of table.now) }
-    ensures comes { IsShown (told_of D.Disk fetch.old) sight.now
+    ensures comes { IsShown (told_of D.Disk fetch.old) sight.now → IsSound sight.now
         → IfOk result (λ decision. Comes sight.now decision
         (initialized_in sight.now table.now starts.OnCreate)) }
     ensures ready { HasSpelledQuery table.now → IfOk result (λ d. IsReady sight.now d) }
@@ -163,7 +163,7 @@ fn first_refresh<D: Disk>(
 ) -> Result<Refreshing, FetchFault>
     requires right { IsRight D.Disk fetch.old }
     requires filed { filed_of_objects (made.now ∷ []) ≡ [] }
-    ensures refreshes { IsShown (told_of D.Disk fetch.old) sight.now
+    ensures refreshes { IsShown (told_of D.Disk fetch.old) sight.now → IsSound sight.now
         → IfOk result (λ found. (n : naming.NewDynamicTable)
         → object_in (kept_object made.now) ≡ new_stored sight.now.stamp n
         → IsFirstRefresh sight.now n id found) }

@@ -1,6 +1,7 @@
 -- Calls that only read.
 --     read_none, read_then          none, and one behind another
 --     filed_behind, shows_behind    the file goes with the catalog still, and shows what is filed
+--     sound_behind                  the state is sound still
 --     machine_behind, made_behind   the machine is the same, and the commit that an event makes
 --     still_right, still_within     what is kept stays
 --     right_beside, within_more     so where the file changes behind it
@@ -19,6 +20,7 @@ use Rattle.wh_fetch.specs.declared.kept.Kept.{Kept}
 use Rattle.wh_fetch.specs.declared.disk_fetch.DiskFetch.{DiskFetch}
 use Rattle.wh_fetch.specs.declared.fault.FetchFault.{FetchFault}
 use Rattle.wh_journal.specs.declared.journal.Journal.{Journal}
+use Rattle.wh_state.specs.Sound.{Sound}
 use Rattle.wh_machine.specs.Outcome.{Machine}
 use Rattle.wh_machine.specs.Step.{Event, step}
 use Rattle.wh_machine.specs.Made.{made}
@@ -61,6 +63,10 @@ module _ {D : Type 0} {seen : Ghosts D} where
   shows_behind old new read shown =
       subst (λ (bytes : Option (List ℕ)). AllShown bytes (filed_of new.catalog)) (sym read.disk.bytes)
       (subst (λ (c : Catalog). AllShown (seen.bytes old.fetch.disk) (filed_of c)) (sym read.catalog) shown)
+
+  pub sound_behind : (old new : Warehouse D seen) → IsOnlyRead old new → Sound (state_of old.catalog)
+      → Sound (state_of new.catalog)
+  sound_behind old new read sound = subst (λ (c : Catalog). Sound (state_of c)) (sym read.catalog) sound
 
   pub machine_behind : (old new : Warehouse D seen) → IsOnlyRead old new → machine_of new ≡ machine_of old
   machine_behind old new read =

@@ -17,6 +17,7 @@ impl<D: Disk> Warehouse<D> {
     ghost use Rattle.wh_reply.specs.View.{reply_view};
     ghost use Rattle.wh_record.specs.View.{commit_of};
     ghost use Rattle.wh_journal.specs.Journal.{limit_of, failed_of};
+    ghost use Rattle.wh_state.specs.Sound.{Sound};
     ghost use Rattle.wh_state.specs.State.{stamped};
     ghost use Rattle.wh_state.specs.Commit.{Commit as MeantCommit};
     ghost use Rattle.wh_machine.specs.Step.{outcome_of};
@@ -38,13 +39,16 @@ impl<D: Disk> Warehouse<D> {
     /// transactions as they were; after a fault of a write or a sync the file has to be opened
     /// again.
     pub fn carry_out(&mut self, _rt: &(impl Threads + Sync), event: &Event) -> Result<Reply, Halt>
-        // Over a file that shows what is filed, as that of an opened warehouse does.
-        ensures answered { ShowsAll self.old → IfOk result (λ reply.
+        // Over a file that shows what is filed, as that of an opened warehouse does, and from a
+        // sound state.
+        ensures answered { ShowsAll self.old → Sound (state_of self.old.catalog)
+            → IfOk result (λ reply.
             Answered self.old self.new (event_of event.now) (reply_view reply)) }
-        ensures halted { ShowsAll self.old → IfErr result (λ halt.
+        ensures halted { ShowsAll self.old → Sound (state_of self.old.catalog)
+            → IfErr result (λ halt.
             Halted self.old self.new (made_in self.old (event_of event.now)) halt) }
-        ensures any_moment { Leaves self.old self.new
-            (led_to self.old (event_of event.now)).state }
+        ensures any_moment { Sound (state_of self.old.catalog)
+            → Leaves self.old self.new (led_to self.old (event_of event.now)).state }
         // Over any disk.
         ensures carried { OnOk result (CarriesSome self.old self.new) }
         ensures stopped { IfErr result (HaltedSome self.old self.new) }
@@ -78,7 +82,8 @@ impl<D: Disk> Warehouse<D> {
     fn decide(&mut self, stamp: u64, event: &Event) -> Result<Decision, Halt>
         requires begun { IsBegun self.old }
         requires healthy { failed_of self.old.journal ≡ None }
-        ensures decides { ShowsAll self.old → IfOk result (λ decision.
+        ensures decides { ShowsAll self.old → Sound (state_of self.old.catalog)
+            → IfOk result (λ decision.
             Decides (stored_of self.new.catalog) (sessions_of self.new.sessions) stamp decision
             (outcome_of (machine_at (stamped (state_of self.new.catalog) stamp)
             (sessions_of self.new.sessions)) (event_of event.now))) }

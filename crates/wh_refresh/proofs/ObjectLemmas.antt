@@ -11,12 +11,8 @@ use Rattle.wh_state.specs.State.{at_id}
 use Rattle.wh_version.proofs.Among.{left_held, right_held}
 use Rattle.wh_table.specs.Table as tables
 use Rattle.wh_table.specs.declared.table.StoredTable.{StoredTable}
-use Rattle.wh_catalog.specs.Object.{kept_object, filed_in_kind}
 use Rattle.wh_catalog.specs.declared.object.StoredObject.{StoredObject}
-use Rattle.wh_refresh.specs.Objects.{filed_at_objects}
-
-abbrev pub filed_one : Bor StoredObject → List Filed
-filed_one o = filed_in_kind (kept_object o.now).kind
+use Rattle.wh_refresh.specs.Objects.{filed_one, filed_at_objects}
 
 pub found_held : (objects : List (Bor StoredObject)) (id : ℕ) (o : Bor StoredObject) → Some o ≡ at_id objects id
     → AllByRecursion (Contains (filed_at_objects objects)) (filed_one o)

@@ -1,4 +1,5 @@
 -- Rows that are passed one by one come to what a rebase keeps apart.
+--     count-without      a row once less
 --     walked_append      rows passed in two parts
 --     walked_apart       the rows that go, and those that are left to come
 --     bag_expanded, same_excess     the rows that come
@@ -36,7 +37,7 @@ times-less true found = refl
 times-less false found = refl
 
 -- how often a row is there, where one of them is taken
-count-without : (row : Row) (b : Bag) (q : Row)
+pub count-without : (row : Row) (b : Bag) (q : Row)
     → count (without_row row b) q ≡ cond (eq_by_cmp row_cmp q row) (count b q - 1) (count b q)
 count-without row b q = by_count (get b row) refl
   where

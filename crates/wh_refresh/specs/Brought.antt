@@ -1,6 +1,5 @@
 -- What a refresh does to tables, as code has it.
 --     IsNewVersion          a version to come is that of some edits
---     IsRebased             edits bring rows to a bag
 --     MakesVersion, MakesRows     a version to come brings a table to a bag
 --     IsBrought, AreBrought     what is done to a table, and to several
 --     BringsOne, Brings     what bringing one, and several, comes to
@@ -12,30 +11,23 @@ use Rattle.std.specs.declared.alloc.Global.{Global}
 use Rattle.std.specs.FinMap.{entries}
 use Rattle.wh_meaning.specs.Bag.{Bag}
 use Rattle.wh_reply.specs.View.{action_view}
-use Rattle.wh_state.specs.State.{Object, Rows, last_rows}
+use Rattle.wh_state.specs.State.{Object, last_rows}
 use Rattle.wh_state.specs.Stored as file
 use Rattle.wh_state.specs.Stored.{table_meant}
 use Rattle.wh_state.specs.Objects.{table_at}
 use Rattle.wh_state.specs.Edits.{Edits}
 use Rattle.wh_moment.specs.Rebase.{rebase}
-use Rattle.wh_version.specs.Edits.{edits_in}
 use Rattle.wh_table.specs.Edited.{IsEdited}
 use Rattle.wh_machine.specs.Refresh as machine
 use Rattle.wh_machine.specs.Brought.{after_all, RiseAbove}
 use Rattle.wh_dynamic.specs.View.{state_of}
 use Rattle.wh_refresh.specs.declared.brought.Brought.{Brought}
 use Rattle.wh_refresh.specs.declared.brought.NewRows.{NewRows}
-use Rattle.wh_refresh.specs.declared.rebase.Rebased.{Rebased}
 
 pub record IsNewVersion (stored : List file.StoredObject) (id : ℕ) (rows : NewRows) (e : Edits) : Type 0 where
   pub edited : (t : file.StoredTable) → table_at stored id ≡ Some t → IsEdited rows.edited e t
   pub plus : rows.plus ≡ length e.added
   pub minus : rows.minus ≡ length (entries e.rows)
-
-pub record IsRebased (made : Rebased) (old : Rows) (bag : Bag) : Type 0 where
-  pub edits : edits_in made.edits ≡ rebase old bag
-  pub plus : made.plus ≡ length (rebase old bag).added
-  pub minus : made.minus ≡ length (entries (rebase old bag).rows)
 
 -- the version that brings a table to a bag, where there is one
 pub record MakesVersion (rows : NewRows) (t : file.StoredTable) (bag : Bag) : Type 0 where

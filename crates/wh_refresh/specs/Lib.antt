@@ -1,6 +1,9 @@
 pub mod Walk
 pub mod Objects
 pub mod Sources
+pub mod Rebased
+pub mod Going
 pub mod Brought
 pub mod Refreshing
 pub mod Writing
+pub mod Standing

@@ -3,14 +3,16 @@
 --     stored_in                 as the file has them
 --     objects_at                as references point to them
 --     filed_at_objects          the partitions that they have in the file
+--     filed_one, filed_at_id    those of one of them, and of the one of an id
 --     with_made, stored_made, filed_made     one that is to be made, if there is one
-use Rattle.std.specs.Prelude.{List, [], ◌∷◌, map, Option, Some, None}
+use Rattle.std.specs.Prelude.{ℕ, List, [], ◌∷◌, map, Option, Some, None}
 use denote.Ref.{Bor}
-use Rattle.wh_state.specs.State.{Object}
+use Rattle.std.specs.Option.{option_map_or}
+use Rattle.wh_state.specs.State.{Object, at_id}
 use Rattle.wh_state.specs.Stored as machine
 use Rattle.wh_filed.specs.Filed.{Filed}
 use Rattle.wh_catalog.specs.Undoable.{object_in}
-use Rattle.wh_catalog.specs.Object.{kept_object, object_of, filed_of_objects}
+use Rattle.wh_catalog.specs.Object.{kept_object, object_of, filed_in_kind, filed_of_objects}
 use Rattle.wh_catalog.specs.declared.object.StoredObject.{StoredObject}
 
 abbrev pub objects_in : List (Bor StoredObject) → List Object
@@ -24,6 +26,12 @@ objects_at objects = map (λ o. o.now) objects
 
 abbrev pub filed_at_objects : List (Bor StoredObject) → List Filed
 filed_at_objects objects = filed_of_objects (objects_at objects)
+
+abbrev pub filed_one : Bor StoredObject → List Filed
+filed_one o = filed_in_kind (kept_object o.now).kind
+
+abbrev pub filed_at_id : List (Bor StoredObject) → ℕ → List Filed
+filed_at_id objects id = option_map_or filed_one (at_id objects id) []
 
 abbrev pub with_made : Option (Bor StoredObject) → List Object
 with_made None = []

@@ -1,33 +1,30 @@
 //! Tables brought to a moment, each over what those before it leave.
-ghost use Rattle.std.specs.Prelude.{◌≡◌, ℕ, None, List, IfOk, IfSome, IfNone};
+ghost use Rattle.std.specs.Prelude.{◌≡◌, ℕ, List, IfOk};
 ghost use Rattle.wh_reply.specs.View.{action_view};
+ghost use Rattle.wh_reply.specs.declared.reply.RefreshAction.TheVariants.{Incremental};
 ghost use Rattle.wh_fetch.specs.Device.{Counts};
 ghost use Rattle.wh_filed.specs.Fetching.{AllShownBy, AllCovered};
 ghost use Rattle.wh_state.specs.Objects as state;
 ghost use Rattle.wh_state.specs.Moments.{evaluated_at};
 ghost use Rattle.wh_state.specs.Stored.{table_meant};
-ghost use Rattle.wh_state.specs.State.{last_rows};
 ghost use Rattle.wh_dynamic.specs.View.{dynamic_of};
 ghost use Rattle.wh_table.specs.Table.{table_of, filed_of};
 ghost use Rattle.wh_machine.specs.Refresh as machine;
 ghost use Rattle.wh_machine.specs.Brought.{after_all, AreAbove, RiseAbove, sought};
 ghost use Rattle.wh_refresh.specs.Objects.{objects_in, stored_in, filed_at_objects};
 ghost use Rattle.wh_refresh.specs.Brought.{AreBrought, BringsOneOr, BringsOr, MakesRows};
-ghost use Rattle.wh_refresh.specs.Brought.{IsRebased};
+ghost use Rattle.wh_refresh.specs.Standing.{HasItsRows, AllStand};
 
 use crate::brought::{Brought, NewRows};
-use crate::evaluation::evaluated;
 use crate::objects::{dynamic_at, table_at};
-use crate::rebase::{Rebased, rebase};
-use crate::sources::{has_new_data, sources_held, sources_of};
+use crate::rebase::Rebased;
+use crate::rows::rebased_by;
+use crate::sources::has_new_data;
 use std::alloc::Global;
-use wh_bag::Bag;
 use wh_catalog::{StoredObject, StoredTable};
 use wh_dynamic::Dynamic;
 use wh_fetch::{Fetch, FetchFault};
-use wh_filed::fetch_all;
 use wh_reply::RefreshAction;
-use wh_table::by_rows;
 
 /// Those of some ids, or None where an evaluation is undefined.
 pub(crate) fn bring_all<F: Fetch>(
@@ -39,7 +36,7 @@ pub(crate) fn bring_all<F: Fetch>(
 ) -> Result<Option<Vec<Brought>>, FetchFault>
     requires { AllCovered (F.covers fetch.old) (filed_at_objects objects.now) }
     ensures brought { AllShownBy (F.contents fetch.old) (filed_at_objects objects.now)
-        → IfOk result (λ found. (stamp : ℕ) → RiseAbove 0 ids.now
+        → AllStand (objects_in objects.now) → IfOk result (λ found. (stamp : ℕ) → RiseAbove 0 ids.now
         → BringsOr (stored_in objects.now) found
         (machine.brought_all stamp moment ids.now (objects_in objects.now))) }
     ensures sound { AllShownBy (F.contents fetch.old) (filed_at_objects objects.now)
@@ -68,7 +65,7 @@ fn bring<F: Fetch>(
 ) -> Result<Option<Brought>, FetchFault>
     requires { AllCovered (F.covers fetch.old) (filed_at_objects objects.now) }
     ensures brought { AllShownBy (F.contents fetch.old) (filed_at_objects objects.now)
-        → IfOk result (λ found. (stamp : ℕ) (bs : List machine.Brought)
+        → AllStand (objects_in objects.now) → IfOk result (λ found. (stamp : ℕ) (bs : List machine.Brought)
         → AreBrought (stored_in objects.now) before.now bs → AreAbove 0 bs → sought id bs ≡ None
         → BringsOneOr (stored_in objects.now) found
         (machine.brought_one (after_all stamp moment bs (objects_in objects.now)) moment id)) }
@@ -94,7 +91,10 @@ fn bring<F: Fetch>(
             state,
         }));
     }
-    let Some(rows) = new_rows(alloc, objects, before, moment, dynamic, table, fetch)? else {
+    let found = new_rows(
+        alloc, objects, before, moment, dynamic, table, action, fetch,
+    )?;
+    let Some(rows) = found else {
         return Ok(None);
     };
     Ok(Some(Brought {
@@ -138,7 +138,8 @@ fn by_mode(dynamic: &Dynamic) -> RefreshAction
     }
 }
 
-// The version that its query makes, or None where it is undefined.
+// The version to come, or None where its query is undefined. One that is brought by a change has
+// the rows of its query for the moment that it stands for.
 fn new_rows<F: Fetch>(
     alloc: Global,
     objects: &[&StoredObject],
@@ -146,12 +147,15 @@ fn new_rows<F: Fetch>(
     moment: u64,
     dynamic: &Dynamic,
     table: &StoredTable,
+    action: RefreshAction,
     fetch: &mut F,
 ) -> Result<Option<NewRows>, FetchFault>
     requires objects { AllCovered (F.covers fetch.old) (filed_at_objects objects.now) }
     requires own { AllCovered (F.covers fetch.old) (filed_of table.now) }
     ensures made { AllShownBy (F.contents fetch.old) (filed_at_objects objects.now)
         → AllShownBy (F.contents fetch.old) (filed_of table.now)
+        → (action ≡ Incremental → HasItsRows (objects_in objects.now) (dynamic_of dynamic.now)
+        (table_meant (table_of table.now)))
         → IfOk result (λ found. (stamp : ℕ) (bs : List machine.Brought)
         → AreBrought (stored_in objects.now) before.now bs → AreAbove 0 bs
         → MakesRows found (table_of table.now)
@@ -164,63 +168,16 @@ fn new_rows<F: Fetch>(
     ensures goes { F.stays fetch.old fetch.new }
     ensures counts { Counts (F.faults fetch.old) (F.faults fetch.new) result }
 {
-    let Some(rows) = rows_by_query(alloc, objects, before, moment, dynamic, fetch)? else {
+    let found = rebased_by(
+        alloc, objects, before, moment, dynamic, table, action, fetch,
+    )?;
+    let Some(Rebased { edits, plus, minus }) = found else {
         return Ok(None);
     };
-    let Rebased { edits, plus, minus } = rebased(alloc, table, rows, fetch)?;
     let edited = table.edited(alloc, edits, fetch)?;
     Ok(Some(NewRows {
         edited,
         plus,
         minus,
     }))
-}
-
-// What its query gives, or None where that is undefined.
-fn rows_by_query<F: Fetch>(
-    alloc: Global,
-    objects: &[&StoredObject],
-    before: &[Brought],
-    moment: u64,
-    dynamic: &Dynamic,
-    fetch: &mut F,
-) -> Result<Option<Bag>, FetchFault>
-    requires { AllCovered (F.covers fetch.old) (filed_at_objects objects.now) }
-    ensures evaluated { AllShownBy (F.contents fetch.old) (filed_at_objects objects.now)
-        → IfOk result (λ found. (stamp : ℕ) (bs : List machine.Brought)
-        → AreBrought (stored_in objects.now) before.now bs → AreAbove 0 bs
-        → found ≡ evaluated_at (after_all stamp moment bs (objects_in objects.now)) moment
-        (dynamic_of dynamic.now)) }
-    ensures sound { AllShownBy (F.contents fetch.old) (filed_at_objects objects.now)
-        → F.damage fetch.new ≡ F.damage fetch.old }
-    ensures same { F.contents fetch.new ≡ F.contents fetch.old }
-    ensures goes { F.stays fetch.old fetch.new }
-    ensures counts { Counts (F.faults fetch.old) (F.faults fetch.new) result }
-{
-    let held = sources_held(alloc, objects, before, moment, dynamic.reads())?;
-    let sources = sources_of(alloc, &held)?;
-    evaluated(alloc, objects, dynamic.query(), &sources, fetch)
-}
-
-// The edits that bring the rows of a table to these. Its partitions are given back.
-fn rebased<F: Fetch>(
-    alloc: Global,
-    table: &StoredTable,
-    rows: Bag,
-    fetch: &mut F,
-) -> Result<Rebased, FetchFault>
-    requires { AllCovered (F.covers fetch.old) (filed_of table.now) }
-    ensures rebased { AllShownBy (F.contents fetch.old) (filed_of table.now)
-        → IfOk result (λ r. IsRebased r (last_rows (table_meant (table_of table.now))) rows) }
-    ensures sound { AllShownBy (F.contents fetch.old) (filed_of table.now)
-        → F.damage fetch.new ≡ F.damage fetch.old }
-    ensures same { F.contents fetch.new ≡ F.contents fetch.old }
-    ensures goes { F.stays fetch.old fetch.new }
-    ensures counts { Counts (F.faults fetch.old) (F.faults fetch.new) result }
-{
-    let standing = table.standing(alloc)?;
-    let old = fetch_all(alloc, &standing, fetch)?;
-    let sorted = by_rows(alloc, &old, &[])?;
-    let found = rebase(alloc, &sorted, &rows)?;
-    Ok(found)
 }

@@ -1,14 +1,17 @@
-//! The refresh of a dynamic table: its upstream and it are brought to a moment, each by its query
-//! over its sources then.
+//! The refresh of a dynamic table: its upstream and it are brought to a moment, each to the rows of
+//! its query over its sources then.
 #![tactic(auto)]
 
 mod bringing;
 mod brought;
+mod changes;
 mod evaluation;
+mod going;
 mod limits;
 mod objects;
 mod rebase;
 mod refreshing;
+mod rows;
 mod sources;
 mod writing;
 

@@ -11,7 +11,7 @@ ghost use Rattle.wh_dynamic.specs.View.{dynamic_of, dynamics_in};
 ghost use Rattle.wh_table.specs.Table as tables;
 ghost use Rattle.wh_table.specs.Table.{table_of};
 ghost use Rattle.wh_catalog.specs.Catalog.{stored_of, state_of, filed_of};
-ghost use Rattle.wh_refresh.specs.Objects.{objects_in, stored_in, filed_at_objects};
+ghost use Rattle.wh_refresh.specs.Objects.{objects_in, stored_in, filed_at_objects, filed_at_id};
 ghost use Rattle.wh_refresh.specs.Objects.{with_made, stored_made, filed_made};
 
 use std::alloc::{AllocError, Global};
@@ -76,6 +76,7 @@ pub(crate) fn table_at<'a>(objects: &[&'a StoredObject], id: u32) -> Option<&'a 
         ≡ state.table_at (objects_in objects.now) id }
     ensures among { IfSome result (λ t.
         AllByRecursion (Contains (filed_at_objects objects.now)) (tables.filed_of t.now)) }
+    ensures filed { IfSome result (λ t. tables.filed_of t.now ≡ filed_at_id objects.now id) }
 {
     let object = object_at(objects, id)?;
     object.kind().table()

@@ -12,6 +12,7 @@ ghost use Rattle.wh_machine.specs.Refresh as machine;
 ghost use Rattle.wh_machine.specs.Dynamics.{first_suspended};
 ghost use Rattle.wh_refresh.specs.Objects.{objects_in, stored_in, filed_at_objects};
 ghost use Rattle.wh_refresh.specs.Refreshing.{besides, RefreshesAs, AreRead};
+ghost use Rattle.wh_refresh.specs.Standing.{AllStand};
 
 use crate::bringing::bring_all;
 use crate::limits::number_refusal;
@@ -51,6 +52,7 @@ pub fn refresh<F: Fetch>(
 ) -> Result<Refreshing, FetchFault>
     requires { AllCovered (F.covers fetch.old) (filed_at_objects objects.now) }
     ensures refreshed { AllShownBy (F.contents fetch.old) (filed_at_objects objects.now)
+        → AllStand (objects_in objects.now)
         → IfOk result (λ r. (s : State) → s.objects ≡ objects_in objects.now
         → RefreshesAs s.last (stored_in objects.now) r
         (machine.refresh s (besides asked s.objects id) id moment)) }

@@ -5,9 +5,11 @@ ghost use Rattle.wh_exec.specs.Source.{filed_in, instance_in};
 ghost use Rattle.wh_state.specs.Moments.{bag_at, instance_at};
 ghost use Rattle.wh_machine.specs.Refresh as machine;
 ghost use Rattle.wh_machine.specs.Brought.{after_all, AreAbove, edits_sought};
-ghost use Rattle.wh_refresh.specs.Objects.{objects_in, stored_in, filed_at_objects};
+ghost use Rattle.wh_delta.specs.Moved.{views_of};
+ghost use Rattle.wh_refresh.specs.Objects.{objects_in, stored_in, filed_at_objects, filed_at_id};
 ghost use Rattle.wh_refresh.specs.Brought.{AreBrought};
 ghost use Rattle.wh_refresh.specs.Sources.{is_new_at, bag_held, bags_held, filed_by, filed_held};
+ghost use Rattle.wh_refresh.specs.Sources.{views_held, IsPartOf, AreParts};
 
 use crate::brought::{Brought, new_rows_of};
 use crate::objects::table_at;
@@ -39,6 +41,9 @@ pub(crate) fn sources_held<'a>(
         ≡ instance_at (after_all stamp moment bs (objects_in objects.now)) moment ids.now) }
     ensures among { IfOk result (λ sources.
         AllByRecursion (Contains (filed_at_objects objects.now)) (filed_held sources.items)) }
+    ensures parts { IfOk result (λ sources. (bs : List machine.Brought)
+        → AreBrought (stored_in objects.now) brought.now bs
+        → AreParts objects.now ids.now sources.items) }
 {
     let mut sources = Vec::new(alloc);
     for id in ids {
@@ -61,6 +66,9 @@ fn source_held<'a>(
         ≡ bag_at (after_all stamp moment bs (objects_in objects.now)) moment id) }
     ensures among { IfOk result (λ source.
         AllByRecursion (Contains (filed_at_objects objects.now)) (filed_by source)) }
+    ensures part { IfOk result (λ source. (bs : List machine.Brought)
+        → AreBrought (stored_in objects.now) brought.now bs
+        → IsPartOf (filed_at_id objects.now id) (filed_by source)) }
 {
     let Some(table) = table_at(objects, id) else {
         return Ok(SourceHeld {
@@ -88,6 +96,7 @@ pub(crate) fn sources_of<'a>(
 ) -> Result<Vec<Source<'a>>, AllocError>
     ensures rows { IfOk result (λ sources. instance_in sources.items ≡ bags_held held.now) }
     ensures filed { IfOk result (λ sources. filed_in sources.items ≡ filed_held held.now) }
+    ensures views { IfOk result (λ sources. views_of sources.items ≡ views_held held.now) }
 {
     let mut sources = Vec::new(alloc);
     for source in held {

@@ -2,7 +2,7 @@
 --     left_file            the file that is left
 --     served_ends          where the warehouse is closed behind what was served
 --     ends_safely          what a crash leaves, whatever the status is
-use Rattle.std.proofs.Common.{◌≡◌, ℕ, List, Option, Some, ◌∙◌, subst}
+use Rattle.std.proofs.Common.{◌≡◌, ℕ, List, Option, Some, subst}
 use Rattle.std.specs.Prelude.{Result, Ok, Err, IfOk, OnOk, IfErr}
 use Rattle.wh_state.specs.File.{Stands}
 use Rattle.wh_machine.specs.Outcome.{Machine, rest_of}
@@ -28,7 +28,7 @@ use Rattle.wh_shell.proofs.Told.{told_file}
 left_file : {D : Type 0} {g : disks.Ghosts D} (old new : Warehouse D g) → IsTold old → StaysOpen old new →
     (file : List ℕ) × (g.bytes new.fetch.disk ≡ Some file) × Stands file (rest_of (machine_of new))
 left_file {D} {g} old new told stays =
-    let found = told_file (g.bytes new.fetch.disk) (stays.told ∙ told) in
+    let found = told_file (g.bytes new.fetch.disk) (stays.sound told).told in
     (found.0, found.1, stands_for found.0 new.journal new.catalog (stays.opens.filed.each found.0 found.1))
 
 module _ {D S K : Type 0} (d : disks.Ghosts D) (s : sources.Ghosts S) (k : sinks.Ghosts K) where

@@ -5,11 +5,14 @@ use Rattle.std.proofs.Common.{arith, option_map}
 use Rattle.std.specs.Prelude.{is_some}
 use Rattle.wh_frame.specs.File.{IsFileOf}
 use Rattle.wh_state.specs.State.{State}
+use Rattle.wh_state.specs.Sound.{Sound}
 use Rattle.wh_state.specs.Stored.{Stored, meant}
 use Rattle.wh_state.specs.Commit.{Commit}
 use Rattle.wh_machine.specs.Outcome.{Machine, opened}
+use Rattle.wh_machine.specs.Sound.{SoundMachine}
 use Rattle.wh_machine.specs.Step.{Event, text}
 use Rattle.wh_machine.specs.Made.{all_made, overflow, fitting}
+use Rattle.wh_machine.proofs.SoundLaws.{sound_opened}
 use Rattle.wh_commit_parse.proofs.FileLaws.{file_fixes_stored}
 use Rattle.wh_world.specs.Crash.{Only}
 use Rattle.wh_world.specs.declared.disk.Disk as disks
@@ -54,6 +57,14 @@ module _ {D S K : Type 0} (d : disks.Ghosts D) (s : sources.Ghosts S) (k : sinks
       IsScriptBy timing input es → left_of ≡ Some es
   told_left input es told script = told_events timing input es (s.left old.script) told script
 
+  -- the file is told, and the machine that a sound state is opened to is sound
+  told_start : (file : List ℕ) (start : State) → d.bytes old.disk ≡ Some file → machine_of w ≡ opened start →
+      Sound start → IsToldAt d start_of
+  told_start file start told machine sound = record {
+    told = opens.told ∙ ap is_some told;
+    sound = subst SoundMachine (sym machine) (sound_opened start sound);
+  }
+
   -- ---- what was written and left
 
   -- the machine of the state that the file stands for is the one that was opened
@@ -68,7 +79,7 @@ module _ {D S K : Type 0} (d : disks.Ghosts D) (s : sources.Ghosts S) (k : sinks
   runs Usage ends = absurd ends
   runs (Read count) ends = λ file input held start es is.
       let left : left_of ≡ Some es = told_left input es is.told_script is.events in
-      let told = opens.told ∙ ap is_some is.told_file in
+      let told = told_start file start is.told_file (same is) is.sound in
       let all = ends.each told es left in
       let left_file = ends.stands told es left in
       subst (λ (m : Machine). IsWhole m es held count (k.held new.out) (d.bytes new.disk) (s.left new.script)) (same is)
@@ -81,7 +92,8 @@ module _ {D S K : Type 0} (d : disks.Ghosts D) (s : sources.Ghosts S) (k : sinks
         stands = left_file.2;
       })
   runs (Stopped why) ends = λ file input held start es is.
-      let end = ends.front (opens.told ∙ ap is_some is.told_file) es (told_left input es is.told_script is.events) in
+      let end = ends.front (told_start file start is.told_file (same is) is.sound) es
+      (told_left input es is.told_script is.events) in
       subst (λ (m : Machine). IsFront m es held (k.held new.out)) (same is)
       (record {
         front = end.front;
@@ -113,7 +125,7 @@ module _ {D S K : Type 0} (d : disks.Ghosts D) (s : sources.Ghosts S) (k : sinks
   commits : (status : Status) → EndsAs d s k start_of new status → AddsCommits d s timing old new status
   commits Usage ends = absurd ends
   commits (Read count) ends = λ file input stored start es says payloads has.
-      let all = ends.each (opens.told ∙ ap is_some says.told_file) es
+      let all = ends.each (told_start file start says.told_file (machine_said says) says.sound) es
       (told_left input es says.told_script says.events) in
       let found = has_opened file payloads says.told_file has in
       let made : all_made (stored_of w.catalog) (machine_of w) es ≡ all_made stored (opened start) es =
@@ -132,7 +144,8 @@ module _ {D S K : Type 0} (d : disks.Ghosts D) (s : sources.Ghosts S) (k : sinks
   survives safe file input before written start es is only held_is =
       run_survives d old.disk w.fetch.disk new.disk (k.held old.out) (k.held new.out) file before written start
       (machine_of w) es is.stands (sym (same is)) (opens.any_moment file is.told_file only)
-      (safe.each (opens.told ∙ ap is_some is.told_file) es (told_left input es is.told_script is.events))
+      (safe.each (told_start file start is.told_file (same is) is.sound) es
+      (told_left input es is.told_script is.events))
       is.told_output held_is
 
   durable : (status : Status) → EndsAs d s k start_of new status →
@@ -175,9 +188,9 @@ module _ {D S K : Type 0} (d : disks.Ghosts D) (s : sources.Ghosts S) (k : sinks
   full : (status : Status) → EndsAs d s k start_of new status → Fills d s k limit timing old new status
   full status ends = λ file input stored start es says.
       let left : left_of ≡ Some es = told_left input es says.told_script says.events in
-      let told = opens.told ∙ ap is_some says.told_file in
       let stored_same = stored_is says in
       let machine_same = machine_said says in
+      let told = told_start file start says.told_file machine_same says.sound in
       let limit_same = opens.limit in
       let room : overflow (limit_of w.journal) (end_of w.journal) (stored_of w.catalog) (machine_of w) es
       ≡ overflow limit (end_of w.journal) stored (opened start) es = cc in

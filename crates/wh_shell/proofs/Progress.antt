@@ -5,7 +5,7 @@
 --     stops_more, serves_all         how they end
 use Rattle.std.proofs.Common.{◌≡◌, ℕ, ◌+◌, ◌≤◌, List, [], ◌∷◌, ◌++◌, length, refl, ap, sym, ◌∙◌, subst, arith}
 use Rattle.std.proofs.Common.{append_assoc, add-zero, append-nil, length-append, Option, false}
-use Rattle.std.specs.Prelude.{is_some, IsTrue}
+use Rattle.std.specs.Prelude.{is_some}
 use Rattle.std.specs.Option.{option_to_list}
 use Rattle.wh_reply.specs.Reply.{print}
 use Rattle.wh_state.specs.Written.{is_beyond}
@@ -23,7 +23,7 @@ use Rattle.wh_engine.specs.Leaves.{StandsForEither}
 use Rattle.wh_engine.specs.declared.warehouse.Warehouse.{Warehouse}
 use Rattle.wh_shell.specs.Commits.{Adds}
 use Rattle.wh_shell.specs.Crash.{EndsSafely}
-use Rattle.wh_shell.specs.Open.{IsTold}
+use Rattle.wh_shell.specs.Open.{IsToldWith, IsTold}
 use Rattle.wh_shell.specs.Point.{Point, point_of, IsToldAt}
 use Rattle.wh_shell.specs.Reading.{GivesEvent}
 use Rattle.wh_shell.specs.Room.{Reach, made_at, reach_after, all_made_at, first_beyond, fitting_at}
@@ -132,7 +132,7 @@ module _ {D S K : Type 0} (d : disks.Ghosts D) (k : sinks.Ghosts K) where
   -- no turn yet
   pub goes_not_yet : (limit : ℕ) (reach : Reach) (left_start left : Option (List Event)) (world : World D S K) →
       left ≡ left_start →
-      (IsTrue (is_some (d.bytes world.disk)) → LeavesOnly d.moment d.left_since world.disk world.disk
+      (IsToldWith (d.bytes world.disk) reach.machine → LeavesOnly d.moment d.left_since world.disk world.disk
       (StandsForEither reach.machine.state reach.machine.state)) →
       Goes d k (record { limit = limit; reach = reach; left = left_start; world = world })
       (record { limit = limit; reach = reach; left = left; world = world }) 0
@@ -285,14 +285,15 @@ module _ {D S K : Type 0} (d : disks.Ghosts D) (k : sinks.Ghosts K) where
 
   -- the run stopped at a turn
   pub stops_more : (s : sources.Ghosts S) (first now : Point D S K) (new : World D S K) (count : ℕ) (why : Fault) →
-      now.limit ≡ first.limit → (IsToldAt d first → IsToldAt d now) → IsLater d s k first.world now.world →
+      now.limit ≡ first.limit → is_some (d.bytes now.world.disk) ≡ is_some (d.bytes first.world.disk) →
+      (IsToldAt d first → IsToldAt d now) → IsLater d s k first.world now.world →
       Goes d k first now count → Stops d s k now new why → Stops d s k first new why
-  stops_more s first now new count why limit stays later goes stops = record {
+  stops_more s first now new count why limit same stays later goes stops = record {
     front = λ is es told.
         let so_far : GoesOn d k first now count es = goes.each is es told in
         front_more first now new count es so_far (stops.front (stays is) so_far.rest so_far.left);
     safe = safely_more d k first now new count stays goes stops.safe;
-    cause = counted_since d s k first.world now.world new later stays why stops.cause;
+    cause = counted_since d s k first.world now.world new later (λ told. same ∙ told) why stops.cause;
     full = λ len need is. full_more first now new count len need limit stays goes (stops.full len need is);
   }
 

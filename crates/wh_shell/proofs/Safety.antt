@@ -1,16 +1,19 @@
 -- What a crash leaves of an open warehouse, of a turn, and of all turns.
 --     leaves_open, leaves_same     over an open warehouse; while nothing is done
 --     stays_open                   where an event is carried out
+--     stays_none, stays_then       while nothing is done, and one turn behind others
 --     open_stands                  what a crash leaves now
 --     none_safely                  a turn that carried out nothing
 --     halts_safely                 a turn that was stopped at an event
 --     safely_more                  all turns, the last of which ended so
-use Rattle.std.proofs.Common.{◌≡◌, ⊎_elim, inl, ℕ, ◌≤◌, List, [], ◌++◌, length, sym, ap, subst, ◌∙◌}
+use Rattle.std.proofs.Common.{◌≡◌, ⊎_elim, inl, ℕ, ◌≤◌, List, [], ◌++◌, length, refl, sym, ap, subst, ◌∙◌}
 use Rattle.std.proofs.Common.{length-append, Option}
 use Rattle.wh_state.specs.State.{State}
 use Rattle.wh_state.specs.File.{Stands}
 use Rattle.wh_machine.specs.Outcome.{Machine, rest_of}
+use Rattle.wh_machine.specs.Sound.{SoundMachine}
 use Rattle.wh_machine.specs.Step.{Event, step, after, text}
+use Rattle.wh_machine.proofs.SoundLaws.{sound_step}
 use Rattle.wh_world.specs.declared.disk.Disk.{Ghosts}
 use Rattle.wh_world.specs.declared.sink.Sink as sinks
 use Rattle.wh_journal.specs.Crash.{LeavesOnly}
@@ -39,13 +42,14 @@ module _ {D : Type 0} {g : Ghosts D} where
   pub leaves_open : (old new : Warehouse D g) (state : State) → IsOpen old → IsTold old → Leaves old new state →
       LeavesOnly g.moment g.left_since old.fetch.disk new.fetch.disk (StandsForEither (machine_of old).state state)
   leaves_open old new state ready told leaves =
-      let found = told_file (g.bytes old.fetch.disk) told in
+      let found = told_file (g.bytes old.fetch.disk) told.told in
       leaves.each found.0 found.1 (ready.settled.each found.0 found.1) ready.filed
 
   -- it stays open where an event is carried out
-  pub stays_open : (old new : Warehouse D g) → IsOpen old → CarriesSome old new →
-      limit_of new.journal ≡ limit_of old.journal → StaysOpen old new
-  stays_open old new ready some limit = record {
+  pub stays_open : (old new : Warehouse D g) (event : Event) → IsOpen old → CarriesSome old new →
+      limit_of new.journal ≡ limit_of old.journal →
+      (IsTold old → machine_of new ≡ (step (machine_of old) event).0) → StaysOpen old new
+  stays_open old new event ready some limit stepped = record {
     opens = record {
       filed = some.carried.filed ready.filed;
       settled = some.carried.durable ready.settled;
@@ -53,6 +57,22 @@ module _ {D : Type 0} {g : Ghosts D} where
     };
     told = some.carried.told;
     limit = limit;
+    sound = λ told. record {
+      told = some.carried.told ∙ told.told;
+      sound = subst SoundMachine (sym (stepped told)) (sound_step (machine_of old) event told.sound);
+    };
+  }
+
+  -- while nothing is done
+  pub stays_none : (w : Warehouse D g) → IsOpen w → StaysOpen w w
+  stays_none w ready = record { opens = ready; told = refl; limit = refl; sound = λ told. told }
+
+  pub stays_then : (first now new : Warehouse D g) → StaysOpen first now → StaysOpen now new → StaysOpen first new
+  stays_then first now new one two = record {
+    opens = two.opens;
+    told = two.told ∙ one.told;
+    limit = two.limit ∙ one.limit;
+    sound = λ told. two.sound (one.sound told);
   }
 
   module _ (only_now : (disk : D) (image : List ℕ) → g.left_since disk (g.moment disk) image →

@@ -1,7 +1,7 @@
 -- The payloads of a file, and those that a run adds.
 --     HasPayloads     a file of more than 8 bytes has these; any other has none
 --     Adds            behind the payloads of a file stand those of commits
---     Says            the file and the script, where they are told, and what they say
+--     Says            the file and the script, where they are told, and what they say; the file's state is sound
 --     AddsCommits     a run that read its script to the end added the commits of its events
 use Rattle.std.specs.Prelude.{◌≡◌, ◌⊎◌, ℕ, ◌<◌, ◌≤◌, List, [], ◌++◌, length, map, Option, Some}
 use Rattle.wh_frame.specs.File.{IsFileOf}
@@ -10,6 +10,7 @@ use Rattle.wh_state.specs.Stored.{Stored, Means}
 use Rattle.wh_state.specs.Commit.{Commit}
 use Rattle.wh_state.specs.Spelling.{payload_of}
 use Rattle.wh_state.specs.File.{Keeps}
+use Rattle.wh_state.specs.Sound.{Sound}
 use Rattle.wh_machine.specs.Outcome.{opened}
 use Rattle.wh_machine.specs.Step.{Event}
 use Rattle.wh_machine.specs.Made.{all_made}
@@ -41,6 +42,8 @@ pub record Says (timing : Timing) (bytes left : Option (List ℕ)) (file input :
   pub told_script : left ≡ Some input
   pub keeps : Keeps file s
   pub means : Means s start
+  -- so is that of every file that a run leaves
+  pub sound : Sound start
   pub events : IsScriptBy timing input es
 
 abbrev pub AddsCommits : {D S K : Type 0} → disks.Ghosts D → sources.Ghosts S → Timing → World D S K → World D S K →

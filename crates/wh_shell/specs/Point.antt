@@ -2,8 +2,8 @@
 --     Point, point_of     its warehouse, the events that are unread, where the script is told, and its devices
 --     starting            where nothing is read yet
 --     awaiting            what a reader has left is unread
---     IsToldAt            its file is told
-use Rattle.std.specs.Prelude.{ℕ, Bool, List, Option, option_map, is_some, IsTrue}
+--     IsToldAt            its file is told, and its machine is sound
+use Rattle.std.specs.Prelude.{ℕ, Bool, List, Option, option_map}
 use Rattle.wh_machine.specs.Step.{Event}
 use Rattle.wh_world.specs.declared.disk.Disk.{Ghosts}
 use Rattle.wh_world.specs.declared.source.Source as sources
@@ -11,6 +11,7 @@ use Rattle.wh_world.specs.declared.clock.Clock as clocks
 use Rattle.wh_journal.specs.Journal.{limit_of}
 use Rattle.wh_engine.specs.declared.warehouse.Warehouse.{Warehouse}
 use Rattle.wh_shell.specs.Events.{events}
+use Rattle.wh_shell.specs.Open.{IsToldWith}
 use Rattle.wh_shell.specs.Reading.{awaited}
 use Rattle.wh_shell.specs.Room.{Reach, reach_of}
 use Rattle.wh_shell.specs.Timing.{timing_of, timed}
@@ -37,4 +38,4 @@ module _ {D S K C : Type 0} {disk : Ghosts D} (s : sources.Ghosts S) (c : clocks
   awaiting w reader script out clock = point_of w (awaited system (c.readings clock) reader (s.left script)) script out
 
 abbrev pub IsToldAt : {D S K : Type 0} → Ghosts D → Point D S K → Type 0
-IsToldAt d p = IsTrue (is_some (d.bytes p.world.disk))
+IsToldAt d p = IsToldWith (d.bytes p.world.disk) p.reach.machine

@@ -14,6 +14,7 @@ use Rattle.std.specs.Prelude.{Option, Some}
 use Rattle.wh_state.specs.State.{State}
 use Rattle.wh_state.specs.File.{Stands}
 use Rattle.wh_state.specs.Fault.{IsFirstFault}
+use Rattle.wh_state.specs.Sound.{Sound}
 use Rattle.wh_machine.specs.Outcome.{Machine, opened, rest_of}
 use Rattle.wh_machine.specs.Step.{Event, after, text, refusals}
 use Rattle.wh_world.specs.Crash.{Only}
@@ -27,13 +28,16 @@ use Rattle.wh_shell.specs.declared.fault.Fault.TheVariants.{OutOfMemory, Disk, N
 use Rattle.wh_shell.specs.declared.status.Status.{Status}
 use Rattle.wh_shell.specs.declared.status.Status.TheVariants.{Usage, Read, Stopped}
 
--- the file, which stands for a state, the script, whose events by the timing are those, and what was written before
+-- the file, which stands for a sound state, the script, whose events by the timing are those, and what was written
+-- before
 pub record IsStart (timing : Timing) (bytes left held : Option (List ℕ)) (file input before : List ℕ)
     (start : State) (es : List Event) : Type 0 where
   pub told_file : bytes ≡ Some file
   pub told_script : left ≡ Some input
   pub told_output : held ≡ Some before
   pub stands : Stands file start
+  -- so is that of every file that a run leaves
+  pub sound : Sound start
   pub events : IsScriptBy timing input es
 
 -- the script was read to its end: its whole text was written, and the file stands for what is committed after all

@@ -2,7 +2,9 @@ ghost use Rattle.std.specs.Prelude.{◌≡◌, ◌≤◌, ℕ, None, option_map,
 ghost use Rattle.std.specs.Prelude.{IfOk, OnOk, IfErr, IsErrOf};
 ghost use Rattle.wh_reply.specs.Reply.{is_refusal};
 ghost use Rattle.wh_reply.specs.View.{reply_view};
+ghost use Rattle.wh_state.specs.Sound.{Sound};
 ghost use Rattle.wh_text.specs.Script.{fault_of};
+ghost use Rattle.wh_catalog.specs.Catalog.{state_of};
 ghost use Rattle.wh_decide.specs.Event.{event_of};
 ghost use Rattle.wh_engine.specs.Warehouse.{machine_of, led_to};
 ghost use Rattle.wh_engine.specs.Leaves.{Leaves};
@@ -124,7 +126,7 @@ fn answer<K: Sink, D: Disk>(
     out: &mut K,
 ) -> Result<u64, Fault>
     requires { IsOpen warehouse.old }
-    // Over a told file.
+    // Over a told file, and from a sound machine.
     ensures carried { IsTold warehouse.old → IfOk result (Carries K.Sink warehouse.old warehouse.new
         (event_of event.now) out.old out.new) }
     ensures few { IfOk result (λ count. count ≤ 1) }
@@ -135,7 +137,7 @@ fn answer<K: Sink, D: Disk>(
         (event_of event.now) out.old out.new) }
 
     // Over any outcome.
-    ensures any_moment { Leaves warehouse.old warehouse.new
+    ensures any_moment { Sound (state_of warehouse.old.catalog) → Leaves warehouse.old warehouse.new
         (led_to warehouse.old (event_of event.now)).state }
     ensures disk_later { D.faults warehouse.old.fetch.disk ≤ D.faults warehouse.new.fetch.disk }
     ensures out_later { K.faults out.old ≤ K.faults out.new }

@@ -2,6 +2,7 @@ ghost use Rattle.std.specs.Prelude.{◌≡◌, IfOk};
 ghost use Rattle.wh_fetch.specs.Device.{Counts};
 ghost use Rattle.wh_fetch.specs.DiskFetch.{told_of, damage_of, faults_of, IsRight, GoesOn};
 ghost use Rattle.wh_filed.specs.Filed.{AllShown};
+ghost use Rattle.wh_state.specs.Sound.{Sound};
 ghost use Rattle.wh_state.specs.State.{stamped};
 ghost use Rattle.wh_machine.specs.Step.{outcome_of};
 ghost use Rattle.wh_machine.specs.Ticks.{action_at, refreshes, ticked};
@@ -14,7 +15,7 @@ ghost use Rattle.wh_txn.specs.View.{sessions_of};
 ghost use Rattle.wh_decide.specs.Event.{event_of};
 ghost use Rattle.wh_decide.specs.Decision.{commit_in, settlement_of, machine_at};
 ghost use Rattle.wh_decide.specs.Decision.{Decides, StagesInOpen};
-ghost use Rattle.wh_decide.specs.Sight.{machine_in, Comes, IsReady, IsShown};
+ghost use Rattle.wh_decide.specs.Sight.{machine_in, Comes, IsReady, IsShown, IsSound};
 
 use crate::holding::held_tasks;
 use crate::live::live_objects;
@@ -42,6 +43,7 @@ pub fn decide<D: Disk>(
 ) -> Result<Decision, FetchFault>
     requires { IsRight D.Disk fetch.old }
     ensures decided { AllShown (told_of D.Disk fetch.old) (filed_of catalog.now)
+        → Sound (state_of catalog.now)
         → IfOk result (λ decision.
         Decides (stored_of catalog.now) (sessions_of sessions.now) stamp decision
         (outcome_of (machine_at (stamped (state_of catalog.now) stamp) (sessions_of sessions.now))
@@ -89,7 +91,7 @@ fn decide_tick<D: Disk>(
 ) -> Result<Decision, FetchFault>
     requires ticking { sight.now.session ≡ 0 }
     requires right { IsRight D.Disk fetch.old }
-    ensures comes { IsShown (told_of D.Disk fetch.old) sight.now
+    ensures comes { IsShown (told_of D.Disk fetch.old) sight.now → IsSound sight.now
         → IfOk result (λ decision. Comes sight.now decision (ticked (machine_in sight.now))) }
     ensures ready { IfOk result (λ decision. IsReady sight.now decision) }
     ensures same { told_of D.Disk fetch.new ≡ told_of D.Disk fetch.old }
@@ -112,7 +114,7 @@ fn refresh_due<D: Disk>(
     fetch: &mut DiskFetch<D>,
 ) -> Result<Decision, FetchFault>
     requires { IsRight D.Disk fetch.old }
-    ensures comes { IsShown (told_of D.Disk fetch.old) sight.now
+    ensures comes { IsShown (told_of D.Disk fetch.old) sight.now → IsSound sight.now
         → IfOk result (λ decision. Comes sight.now decision (refreshes (machine_in sight.now)
         (due_table (dynamics_of (machine_in sight.now).state.objects) sight.now.stamp))) }
     ensures ready { IfOk result (λ decision. IsReady sight.now decision) }

@@ -10,24 +10,24 @@ use Rattle.wh_decide.proofs.SpelledLemmas.{text_spells}
 use Rattle.wh_decide.proofs.deciding.decide_command.Goals as goal
 
 pub returns-then-bound-text-clause-comes : goal.returns-then-bound-text-clause-comes
-returns-then-bound-text-clause-comes g c = λ shown.
+returns-then-bound-text-clause-comes g c = λ shown sound.
     let sight = c.args.sight.now in
     let m = machine_in sight in
     let long : 65536 < length c.args.text.now = omega (arith, c.bound.ensures) in
     ap (commanded m sight.session) (long_request c.args.text.now long) ∙ command_long m sight.session
 
 pub returns-in-Ok-clause-comes : goal.returns-in-Ok-clause-comes
-returns-in-Ok-clause-comes g c = λ shown.
+returns-in-Ok-clause-comes g c = λ shown sound.
     let sight = c.args.sight.now in
     let m = machine_in sight in
     let within : length c.args.text.now ≤ 65536 = omega (arith, c.bound.ensures) in
     comes_as sight c.decide_tree-decision.result
     (ap (commanded m sight.session)
     (sym (short_request c.args.text.now (Some c.in-Ok.statement) within c.in-Ok.ensures.reads)))
-    (c.decide_tree-decision.ensures.comes shown)
+    (c.decide_tree-decision.ensures.comes shown sound)
 
 pub returns-in-Err-SyntaxError-clause-comes : goal.returns-in-Err-SyntaxError-clause-comes
-returns-in-Err-SyntaxError-clause-comes g c = λ shown.
+returns-in-Err-SyntaxError-clause-comes g c = λ shown sound.
     let sight = c.args.sight.now in
     let m = machine_in sight in
     let within : length c.args.text.now ≤ 65536 = omega (arith, c.bound.ensures) in

@@ -31,13 +31,13 @@ named_as : (tree : Statement) {os objects : List Named} {rs roots : List TaskRoo
 named_as tree at told is = (λ i. bound (over (map named_of (at i)) (map root_in (told i))) tree) ∙ is
 
 pub returns-then-not-is_session-clause-comes : goal.returns-then-not-is_session-clause-comes
-returns-then-not-is_session-clause-comes g c = λ shown.
+returns-then-not-is_session-clause-comes g c = λ shown sound.
     let sight = c.args.sight.now in
     command_of_none (machine_in sight) sight.session c.args.statement.now
     (sym c.is_session.ensures ∙ c.if-not-is_session.true)
 
 pub returns-in-Ok-clause-comes : goal.returns-in-Ok-clause-comes
-returns-in-Ok-clause-comes g c = λ shown.
+returns-in-Ok-clause-comes g c = λ shown sound.
     let sight = c.args.sight.now in
     let tree = c.args.statement.now in
     let same = named_as tree c.deref.ensures.value c.deref-2.ensures.value
@@ -46,10 +46,10 @@ returns-in-Ok-clause-comes g c = λ shown.
     comes_as sight c.decide_bound.result
     (command_bound (machine_in sight) sight.session tree _ c.in-Ok.bound
     (sym c.is_session.ensures ∙ c.if-not-is_session.false) same c.in-Ok.ensures)
-    (c.decide_bound.ensures.comes shown)
+    (c.decide_bound.ensures.comes shown sound)
 
 pub returns-in-Err-Failing-clause-comes : goal.returns-in-Err-Failing-clause-comes
-returns-in-Err-Failing-clause-comes g c = λ shown.
+returns-in-Err-Failing-clause-comes g c = λ shown sound.
     let sight = c.args.sight.now in
     let m = machine_in sight in
     let tree = c.args.statement.now in

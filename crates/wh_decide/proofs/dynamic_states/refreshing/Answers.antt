@@ -5,6 +5,8 @@ use Rattle.wh_state.specs.Stored.{StoredObject}
 use Rattle.wh_machine.specs.Refresh.{refresh}
 use Rattle.wh_refresh.specs.Objects.{objects_in, stored_in, filed_at_objects}
 use Rattle.wh_refresh.specs.Refreshing.{besides, RefreshesAs}
+use Rattle.wh_refresh.specs.Standing.{AllStand}
+use Rattle.wh_refresh.proofs.StandLaws.{all_stand}
 use Rattle.wh_catalog.specs.Catalog.{stored_of, state_of}
 use Rattle.wh_decide.specs.Sight.{machine_in}
 use Rattle.wh_fetch.specs.DiskFetch.{told_of, Covers}
@@ -17,7 +19,7 @@ refresh-requires g c =
     all_covered (Covers g.D.Disk c.args.fetch.now) (filed_at_objects c.deref.result.now) (λ part. c.requires)
 
 pub returns-clause-refreshes : goal.returns-clause-refreshes
-returns-clause-refreshes g c = λ shown.
+returns-clause-refreshes g c = λ shown sound.
     let sight = c.args.sight.now in
     let state = (machine_in sight).state in
     let outcome = refresh state (besides c.args.asked state.objects c.args.id) c.args.id c.args.moment in
@@ -30,7 +32,8 @@ returns-clause-refreshes g c = λ shown.
     (told state (sym objects)))
     (c.refresh.ensures.refreshed (all_shown_by (told_of g.D.Disk c.args.fetch.now)
     (filed_at_objects c.deref.result.now) (objects_shown sight (told_of g.D.Disk c.args.fetch.now) _ _ _
-    c.in_ok-objects.ensures.among refl c.deref.ensures.value shown)))
+    c.in_ok-objects.ensures.among refl c.deref.ensures.value shown))
+    (subst AllStand (sym objects) (all_stand (state_of sight.catalog.now) sound)))
 
 pub returns-clause-sound : goal.returns-clause-sound
 returns-clause-sound g c = λ shown.

@@ -10,22 +10,22 @@ use Rattle.wh_decide.proofs.dynamic_states.scheduled_refresh.Goals as goal
 
 pub returns-in_ok-failed-in-Fails-clause-comes : goal.returns-in_ok-failed-in-Fails-clause-comes
 unfolding scheduled
-returns-in_ok-failed-in-Fails-clause-comes g c = λ shown.
+returns-in_ok-failed-in-Fails-clause-comes g c = λ shown sound.
     let sight = c.args.sight.now in
     let m = machine_in sight in
     let outcome = refresh m.state None c.args.id c.args.target in
     let fails = subst (λ f. RefreshesAs sight.stamp (stored_of sight.catalog.now).objects f outcome)
-    c.in-Fails.is (c.in_ok-found.ensures.refreshes shown) in
+    c.in-Fails.is (c.in_ok-found.ensures.refreshes shown sound) in
     decides_as sight _ (sym (ap (scheduled_by m c.args.id c.args.target) fails)) c.in_ok-failed-in-Fails.ensures
 
 pub returns-in-Brings-clause-comes : goal.returns-in-Brings-clause-comes
 unfolding scheduled
-returns-in-Brings-clause-comes g c = λ shown.
+returns-in-Brings-clause-comes g c = λ shown sound.
     let sight = c.args.sight.now in
     let m = machine_in sight in
     let outcome = refresh m.state None c.args.id c.args.target in
     let brings = subst (λ f. RefreshesAs sight.stamp (stored_of sight.catalog.now).objects f outcome)
-    c.in-Brings.is (c.in_ok-found.ensures.refreshes shown) in
+    c.in-Brings.is (c.in_ok-found.ensures.refreshes shown sound) in
     decides_as sight c.defined.result (sym (ap (scheduled_by m c.args.id c.args.target) brings.is))
     (c.defined.ensures.comes brings.acts brings.written)
 

@@ -20,7 +20,7 @@ use Rattle.wh_decide.proofs.dynamic_tables.create_dynamic.Goals.{In_default}
 use Rattle.wh_decide.proofs.dynamic_tables.create_dynamic.Goals as goal
 
 pub returns-in-Some-clause-comes : goal.returns-in-Some-clause-comes
-returns-in-Some-clause-comes g c = λ shown.
+returns-in-Some-clause-comes g c = λ shown sound.
     let sight = c.args.sight.now in
     defines_dynamic (state_of sight.catalog.now) sight.stamp (sessions_of sight.sessions.now) sight.session
     (new_dynamic_table_of c.args.table.now) _ (Some (refusal_view c.in-Some.why)) c.in_ok-wrong.ensures
@@ -64,9 +64,9 @@ new_dynamic-requires-clause-room g c =
     omega (arith, kept.room, count_is c.args.sight.now.catalog.now)
 
 pub returns-clause-comes : goal.returns-clause-comes
-returns-clause-comes g c = λ shown.
+returns-clause-comes g c = λ shown sound.
     comes_as c.args.sight.now c.new_dynamic.result (sym (defined_as g (goal.at.returns-clause-comes g c).In_default))
-    (c.new_dynamic.ensures.comes shown)
+    (c.new_dynamic.ensures.comes shown sound)
 
 pub returns-in-Some-clause-ready : goal.returns-in-Some-clause-ready
 returns-in-Some-clause-ready g c = λ spelled. nothing_ready c.args.sight.now

@@ -1,4 +1,6 @@
-use Rattle.std.proofs.Common.{◌≡◌, ℕ, List, Option, Some, None, option_map, refl, subst, sym, ap, ◌∙◌}
+use Rattle.std.proofs.Common.{◌≡◌, ℕ, zero, suc, ◌<◌, cond, List, Option, Some, None, option_map, refl, subst, sym, ap}
+use Rattle.std.proofs.Common.{◌∙◌, arith}
+use Rattle.std.specs.Prelude.{nat_eq}
 use Rattle.std.proofs.lemmas.Option.{same_Some}
 use Rattle.wh_meaning.specs.Bag.{Bag}
 use Rattle.wh_filed.specs.Fetching.{IsShownBy, AllShownBy, IsCovered}
@@ -7,20 +9,21 @@ use Rattle.wh_reply.specs.View.{action_view}
 use Rattle.wh_reply.specs.declared.reply.RefreshAction.{RefreshAction}
 use Rattle.wh_reply.specs.declared.reply.RefreshAction.TheVariants.{NoData, Full, Incremental}
 use Rattle.wh_state.specs.State.{Object, Table, last_rows}
-use Rattle.wh_state.specs.Dynamic.{Dynamic}
+use Rattle.wh_state.specs.Dynamic.{Dynamic, ids_read}
 use Rattle.wh_state.specs.Stored.{StoredTable, table_meant}
 use Rattle.wh_state.specs.Moments.{evaluated_at}
 use Rattle.wh_moment.specs.Rebase.{rebase}
 use Rattle.wh_moment.specs.Moment.{brought_to}
 use Rattle.wh_dynamic.specs.View.{dynamic_of}
 use Rattle.wh_machine.specs.Refresh as machine
-use Rattle.wh_machine.specs.Refresh.{brought_by, brought_as, brought_one}
-use Rattle.wh_machine.specs.Brought.{after_all}
+use Rattle.wh_machine.specs.Refresh.{brought_by, brought_as, brought_one, has_new_data, by_mode, action_of}
+use Rattle.wh_machine.specs.Brought.{after_all, AreAbove}
 use Rattle.wh_version.proofs.Among.{each_held}
 use Rattle.wh_table.specs.Table.{table_of, filed_of}
 use Rattle.wh_table.specs.Edited.{IsEdited}
 use Rattle.wh_refresh.specs.Objects.{objects_in, stored_in, filed_at_objects}
-use Rattle.wh_refresh.specs.Brought.{MakesRows, BringsOne}
+use Rattle.wh_refresh.specs.Brought.{AreBrought, MakesRows, BringsOne}
+use Rattle.wh_refresh.specs.Standing.{HasItsRows, AllStand}
 use Rattle.wh_refresh.specs.declared.brought.NewRows.{NewRows}
 use Rattle.wh_refresh.proofs.RefreshLemmas.{one_without, one_by}
 use Rattle.wh_refresh.proofs.bringing.bring.Given.{Over}
@@ -40,6 +43,33 @@ own_shown g c shown =
     each_held (IsShownBy (g.F.Fetch.contents c.args.fetch.now)) (filed_of c.in-Some-table_at.table.now)
     (filed_at_objects c.args.objects.now) c.in-Some-table_at.ensures.among shown
 
+-- one that is brought by a change stands for a moment
+later_moment : (objects : List Object) (moment : ℕ) (d : Dynamic) (action : RefreshAction) → action ≡ Incremental
+    → action_view action ≡ action_of objects moment d → 0 < d.state.moment
+later_moment objects moment d action is acts = by_moment d.state.moment refl
+  where
+    by_moment : (m : ℕ) → d.state.moment ≡ m → 0 < m
+    by_moment zero none =
+        let full : reply.Incremental ≡ reply.Full = sym (ap action_view is) ∙ acts
+        ∙ ap (λ (m : ℕ). cond (nat_eq m 0) reply.Full
+        (cond (has_new_data objects d.state.moment moment (ids_read d.query)) (by_mode d.is_incremental) reply.NoData))
+        none in
+        absurd cc
+    by_moment (suc m) later = omega arith
+
+has_rows : (g : Over) (c : After-new_rows g) → AllStand (objects_in c.args.objects.now) → (stamp : ℕ)
+    (bs : List machine.Brought) → AreBrought (stored_in c.args.objects.now) c.args.before.now bs → AreAbove 0 bs
+    → c.action-action.result ≡ Incremental
+    → HasItsRows (objects_in c.args.objects.now) (dynamic_of c.in-Some.dynamic.now)
+    (table_meant (table_of c.in-Some-table_at.table.now))
+has_rows g c stand stamp bs are above is =
+    let objects = objects_in c.args.objects.now in
+    let d = dynamic_of c.in-Some.dynamic.now in
+    stand.each c.args.id d (table_meant (table_of c.in-Some-table_at.table.now)) (sym c.in-Some.ensures)
+    (sym c.in-Some-table_at.ensures.meant)
+    (later_moment (after_all stamp c.args.moment bs objects) c.args.moment d c.action-action.result is
+    (c.action-action.ensures stamp bs are above))
+
 -- where there is new data, or no moment yet, its query says what is done
 by_query : (objects : List Object) (moment id : ℕ) (d : Dynamic) (t : Table) (action : RefreshAction)
     → (action ≡ NoData → ⊥) → brought_by objects moment id d t (action_view action)
@@ -50,11 +80,11 @@ by_query objects moment id d t Full some = refl
 by_query objects moment id d t Incremental some = refl
 
 pub returns-in_default-clause-brought : goal.returns-in_default-clause-brought
-returns-in_default-clause-brought g c shown stamp bs are above none =
+returns-in_default-clause-brought g c shown stand stamp bs are above none =
     one_without stamp c.args.moment bs (objects_in c.args.objects.now) above c.args.id none (sym c.in_default.ensures)
 
 pub returns-in-NoData-clause-brought : goal.returns-in-NoData-clause-brought
-returns-in-NoData-clause-brought g c shown stamp bs are above none =
+returns-in-NoData-clause-brought g c shown stand stamp bs are above none =
     let objects = objects_in c.args.objects.now in
     let d = dynamic_of c.in-Some.dynamic.now in
     let t = table_meant (table_of c.in-Some-table_at.table.now) in
@@ -73,8 +103,8 @@ returns-in-NoData-clause-brought g c shown stamp bs are above none =
       };
     }
 
-pub returns-in_default-2-clause-brought : goal.returns-in_default-2-clause-brought
-returns-in_default-2-clause-brought g c shown stamp bs are above none =
+pub returns-in_default-found-clause-brought : goal.returns-in_default-found-clause-brought
+returns-in_default-found-clause-brought g c shown stand stamp bs are above none =
     let objects = objects_in c.args.objects.now in
     let now : List Object = after_all stamp c.args.moment bs objects in
     let d = dynamic_of c.in-Some.dynamic.now in
@@ -83,9 +113,10 @@ returns-in_default-2-clause-brought g c shown stamp bs are above none =
     none_made (table_of c.in-Some-table_at.table.now) (evaluated_at now c.args.moment d)
     (subst (λ (rows : Option NewRows). MakesRows rows (table_of c.in-Some-table_at.table.now)
     (evaluated_at now c.args.moment d))
-    c.in_default-2.is
-    (c.in_ok-rows.ensures.made shown
-    (own_shown g (goal.at.returns-in_default-2-clause-brought g c).After-new_rows shown) stamp bs are above)) in
+    c.in_default-found.is
+    (c.in_ok-found.ensures.made shown
+    (own_shown g (goal.at.returns-in_default-found-clause-brought g c).After-new_rows shown)
+    (has_rows g (goal.at.returns-in_default-found-clause-brought g c).After-new_rows stand stamp bs are above) stamp bs are above)) in
     one_by stamp c.args.moment bs objects above c.args.id d t none (sym c.in-Some.ensures)
     (sym c.in-Some-table_at.ensures.meant)
     ∙ ap (brought_by now c.args.moment c.args.id d t) (sym (c.action-action.ensures stamp bs are above))
@@ -98,7 +129,7 @@ returns-in_default-2-clause-brought g c shown stamp bs are above none =
     none_made t (Some bag) made = absurd made
 
 pub returns-clause-brought : goal.returns-clause-brought
-returns-clause-brought g c shown stamp bs are above none =
+returns-clause-brought g c shown stand stamp bs are above none =
     let stored = stored_in c.args.objects.now in
     let objects = objects_in c.args.objects.now in
     let now : List Object = after_all stamp c.args.moment bs objects in
@@ -106,14 +137,15 @@ returns-clause-brought g c shown stamp bs are above none =
     let table : StoredTable = table_of c.in-Some-table_at.table.now in
     let t = table_meant table in
     let made = subst (λ (rows : Option NewRows). MakesRows rows table (evaluated_at now c.args.moment d))
-    c.in-Some-2.is (c.in_ok-rows.ensures.made shown
-    (own_shown g (goal.at.returns-clause-brought g c).After-new_rows shown) stamp bs are above) in
+    c.in-Some-found.is (c.in_ok-found.ensures.made shown
+    (own_shown g (goal.at.returns-clause-brought g c).After-new_rows shown)
+    (has_rows g (goal.at.returns-clause-brought g c).After-new_rows stand stamp bs are above) stamp bs are above) in
     let by_rows : (found : Option Bag) → evaluated_at now c.args.moment d ≡ found
-    → MakesRows (Some c.in-Some-2.rows) table found
+    → MakesRows (Some c.in-Some-found.rows) table found
     → BringsOne stored (record {
       id = c.args.id;
       action = c.action-action.result;
-      rows = Some c.in-Some-2.rows;
+      rows = Some c.in-Some-found.rows;
       state = c.brought_to-state.result;
     }) (brought_one now c.args.moment c.args.id) =
     elim [
@@ -131,7 +163,7 @@ returns-clause-brought g c shown stamp bs are above none =
           id = refl;
           action = refl;
           rows = record {
-            edited = λ other there. subst (λ (o : StoredTable). IsEdited c.in-Some-2.rows.edited
+            edited = λ other there. subst (λ (o : StoredTable). IsEdited c.in-Some-found.rows.edited
                 (rebase (last_rows t) bag) o)
                 (same_Some _ _ (c.in-Some-table_at.ensures.stored ∙ there)) made.edited;
             plus = made.plus;
@@ -145,16 +177,16 @@ returns-clause-brought g c shown stamp bs are above none =
 
 -- ---- where the table's partitions are sound
 
-pub returns-in_err-rows-clause-sound : goal.returns-in_err-rows-clause-sound
-returns-in_err-rows-clause-sound g c shown =
-    c.in_err-rows.ensures.sound shown
-    (own_shown g (goal.at.returns-in_err-rows-clause-sound g c).After-new_rows shown)
+pub returns-in_err-found-clause-sound : goal.returns-in_err-found-clause-sound
+returns-in_err-found-clause-sound g c shown =
+    c.in_err-found.ensures.sound shown
+    (own_shown g (goal.at.returns-in_err-found-clause-sound g c).After-new_rows shown)
 
-pub returns-in_default-2-clause-sound : goal.returns-in_default-2-clause-sound
-returns-in_default-2-clause-sound g c shown =
-    c.in_ok-rows.ensures.sound shown
-    (own_shown g (goal.at.returns-in_default-2-clause-sound g c).After-new_rows shown)
+pub returns-in_default-found-clause-sound : goal.returns-in_default-found-clause-sound
+returns-in_default-found-clause-sound g c shown =
+    c.in_ok-found.ensures.sound shown
+    (own_shown g (goal.at.returns-in_default-found-clause-sound g c).After-new_rows shown)
 
 pub returns-clause-sound : goal.returns-clause-sound
 returns-clause-sound g c shown =
-    c.in_ok-rows.ensures.sound shown (own_shown g (goal.at.returns-clause-sound g c).After-new_rows shown)
+    c.in_ok-found.ensures.sound shown (own_shown g (goal.at.returns-clause-sound g c).After-new_rows shown)

@@ -26,7 +26,7 @@ next stored objects stamp moment id ids left before all found same brings far =
     (rise_above 0 far.brought (id ∷ left) far.rise) (not_sought 0 far.brought id left far.rise)
 
 pub returns-in-None-clause-brought : goal.returns-in-None-clause-brought
-returns-in-None-clause-brought g c shown stamp rise =
+returns-in-None-clause-brought g c shown stand stamp rise =
     let stored = stored_in c.args.objects.now in
     let objects = objects_in c.args.objects.now in
     let moment = c.args.moment in
@@ -36,18 +36,18 @@ returns-in-None-clause-brought g c shown stamp rise =
     let all = c.loop-id.brought.items in
     let then = still_shown _ _ (filed_at_objects c.args.objects.now) c.loop-id.invariant.same shown in
     let far = subst (λ (left : List ℕ). BroughtSoFar stored objects stamp moment ids left all)
-    (drop_more ids i 0 c.loop-id-test.true) (c.loop-id.invariant.brought shown stamp rise) in
+    (drop_more ids i 0 c.loop-id-test.true) (c.loop-id.invariant.brought shown stand stamp rise) in
     far_stopped stored objects stamp moment ids id (drop (i + 1) ids) all far
     (subst (λ (found : Option Brought). BringsOneOr stored found
     (brought_one (after_all stamp moment far.brought objects) moment id)) c.in-None.is
     (next stored objects stamp moment id ids (drop (i + 1) ids) c.deref.result.now all c.in_ok-one.field-0
-    c.deref.ensures.value (c.in_ok-one.ensures.brought then stamp) far))
+    c.deref.ensures.value (c.in_ok-one.ensures.brought then stand stamp) far))
 
 pub loop-id-preserved : goal.loop-id-preserved
 loop-id-preserved g c = record {
   covered = still_covered _ _ (filed_at_objects c.args.objects.now)
       (λ part. g.met.F.Fetch.covers_on _ _ part c.in_ok-one.ensures.goes) c.loop-id.invariant.covered;
-  brought = λ shown stamp rise.
+  brought = λ shown stand stamp rise.
       let stored = stored_in c.args.objects.now in
       let objects = objects_in c.args.objects.now in
       let moment = c.args.moment in
@@ -57,12 +57,12 @@ loop-id-preserved g c = record {
       let all = c.loop-id.brought.items in
       let then = still_shown _ _ (filed_at_objects c.args.objects.now) c.loop-id.invariant.same shown in
       let far = subst (λ (left : List ℕ). BroughtSoFar stored objects stamp moment ids left all)
-      (drop_more ids i 0 c.loop-id-test.true) (c.loop-id.invariant.brought shown stamp rise) in
+      (drop_more ids i 0 c.loop-id-test.true) (c.loop-id.invariant.brought shown stand stamp rise) in
       let now : List Object = after_all stamp moment far.brought objects in
       let brings : BringsOne stored c.in-Some.one (brought_one now moment id) =
       subst (λ (found : Option Brought). BringsOneOr stored found (brought_one now moment id)) c.in-Some.is
       (next stored objects stamp moment id ids (drop (i + 1) ids) c.deref.result.now all c.in_ok-one.field-0
-      c.deref.ensures.value (c.in_ok-one.ensures.brought then stamp) far) in
+      c.deref.ensures.value (c.in_ok-one.ensures.brought then stand stamp) far) in
       subst (λ (more : List Brought). BroughtSoFar stored objects stamp moment ids (drop (i + 1) ids) more)
       (sym c.in_ok-push-in-Some.ensures.items)
       (far_further stored objects stamp moment ids id (drop (i + 1) ids) all c.in-Some.one far
@@ -74,10 +74,10 @@ loop-id-preserved g c = record {
 }
 
 pub returns-clause-brought : goal.returns-clause-brought
-returns-clause-brought g c shown stamp rise =
+returns-clause-brought g c shown stand stamp rise =
     let stored = stored_in c.args.objects.now in
     let objects = objects_in c.args.objects.now in
     let ids = c.args.ids.now in
     far_done stored objects stamp c.args.moment ids c.loop-id.brought.items
     (subst (λ (left : List ℕ). BroughtSoFar stored objects stamp c.args.moment ids left c.loop-id.brought.items)
-    (drop_all c.loop-id.id-index ids c.loop-id-test.false) (c.loop-id.invariant.brought shown stamp rise))
+    (drop_all c.loop-id.id-index ids c.loop-id-test.false) (c.loop-id.invariant.brought shown stand stamp rise))

@@ -3,13 +3,14 @@ use Rattle.wh_filed.specs.Fetching.{AllShownBy, AllCovered}
 use Rattle.wh_machine.specs.Brought.{RiseAbove}
 use Rattle.wh_refresh.specs.Objects.{objects_in, stored_in, filed_at_objects}
 use Rattle.wh_refresh.specs.Brought.{BroughtSoFar}
+use Rattle.wh_refresh.specs.Standing.{AllStand}
 use Rattle.wh_refresh.proofs.bringing.bring_all.Given as goal
 
 abbrev pub invariant-loop-id : goal.invariant-loop-id
 invariant-loop-id g l = record {
   covered : AllCovered (g.F.Fetch.covers l.fetch) (filed_at_objects l.objects);
   brought : AllShownBy (g.F.Fetch.contents l.fn.fetch) (filed_at_objects l.objects)
-      → (stamp : ℕ) → RiseAbove 0 l.ids
+      → AllStand (objects_in l.objects) → (stamp : ℕ) → RiseAbove 0 l.ids
       → BroughtSoFar (stored_in l.objects) (objects_in l.objects) stamp l.moment l.ids (drop l.id-index l.ids)
       l.brought.items;
   sound : AllShownBy (g.F.Fetch.contents l.fn.fetch) (filed_at_objects l.objects)

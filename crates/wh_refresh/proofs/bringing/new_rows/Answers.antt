@@ -1,38 +1,55 @@
-use Rattle.std.proofs.Common.{Option, Some, None, subst, sym, ◌∙◌}
+use Rattle.std.proofs.Common.{◌≡◌, Option, Some, None, refl, subst, ◌∙◌}
 use Rattle.wh_meaning.specs.Bag.{Bag}
+use Rattle.wh_state.specs.State.{last_rows}
+use Rattle.wh_state.specs.Stored.{StoredTable, table_meant}
 use Rattle.wh_state.specs.Edits.{Edits}
+use Rattle.wh_state.specs.Moments.{evaluated_at}
 use Rattle.wh_filed.proofs.FetchingLaws.{still_covered}
+use Rattle.wh_dynamic.specs.View.{dynamic_of}
+use Rattle.wh_machine.specs.Brought.{after_all}
+use Rattle.wh_version.specs.Edits.{edits_in}
 use Rattle.wh_table.specs.Table.{table_of, filed_of}
 use Rattle.wh_table.specs.Edited.{IsEdited}
+use Rattle.wh_refresh.specs.Objects.{objects_in}
 use Rattle.wh_refresh.specs.Brought.{MakesRows}
+use Rattle.wh_refresh.specs.Rebased.{RebasesTo}
+use Rattle.wh_refresh.specs.declared.brought.NewRows.{NewRows}
+use Rattle.wh_refresh.specs.declared.rebase.Rebased.{Rebased}
 use Rattle.wh_refresh.proofs.SourceLemmas.{still_shown}
 use Rattle.wh_refresh.proofs.bringing.new_rows.Goals as goal
 
-pub returns-in_default-clause-made : goal.returns-in_default-clause-made
-returns-in_default-clause-made g c shown filed stamp bs are above =
-    subst (λ (f : Option Bag). MakesRows None (table_of c.args.table.now) f)
-    (sym c.in_default.is ∙ c.in_ok-rows.ensures.evaluated shown stamp bs are above) tt
+none_made : (t : StoredTable) (now : Option Bag) → RebasesTo (last_rows (table_meant t)) now None → MakesRows None t now
+none_made t None rebases = tt
+none_made t (Some bag) rebases = absurd rebases
 
-pub rebased-requires : goal.rebased-requires
-rebased-requires g c =
-    still_covered _ _ (filed_of c.args.table.now)
-    (λ part. g.met.F.Fetch.covers_on _ _ part c.in_ok-rows.ensures.goes) c.requires.own
+one_made : (t : StoredTable) (now : Option Bag) (made : Rebased) (rows : NewRows)
+    → RebasesTo (last_rows (table_meant t)) now (Some made) → IsEdited rows.edited (edits_in made.edits) t
+    → rows.plus ≡ made.plus → rows.minus ≡ made.minus → MakesRows (Some rows) t now
+one_made t None made rows rebases edited plus minus = absurd rebases
+one_made t (Some bag) made rows is edited plus minus = record {
+  edited = subst (λ (e : Edits). IsEdited rows.edited e t) is.edits edited;
+  plus = plus ∙ is.plus;
+  minus = minus ∙ is.minus;
+}
+
+pub returns-in_default-clause-made : goal.returns-in_default-clause-made
+returns-in_default-clause-made g c shown own has stamp bs are above =
+    let t = table_of c.args.table.now in
+    let now = evaluated_at (after_all stamp c.args.moment bs (objects_in c.args.objects.now)) c.args.moment
+    (dynamic_of c.args.dynamic.now) in
+    none_made t now (subst (λ (f : Option Rebased). RebasesTo (last_rows (table_meant t)) now f) c.in_default.is
+    (c.in_ok-found.ensures.rebased shown own has stamp bs are above))
 
 pub edited-requires : goal.edited-requires
 edited-requires g c =
-    let goes = g.met.F.Fetch.stays_on _ _ _ c.in_ok-rows.ensures.goes c.in_ok-edits.ensures.goes in
-    still_covered _ _ (filed_of c.args.table.now) (λ part. g.met.F.Fetch.covers_on _ _ part goes) c.requires.own
+    still_covered _ _ (filed_of c.args.table.now)
+    (λ part. g.met.F.Fetch.covers_on _ _ part c.in_ok-found.ensures.goes) c.requires.own
 
 pub returns-clause-made : goal.returns-clause-made
-returns-clause-made g c shown filed stamp bs are above =
+returns-clause-made g c shown own has stamp bs are above =
     let t = table_of c.args.table.now in
-    let files = filed_of c.args.table.now in
-    let then = still_shown _ _ files c.in_ok-rows.ensures.same filed in
-    let later = still_shown _ _ files c.in_ok-edits.ensures.same then in
-    let made = c.in_ok-edits.ensures.rebased then in
-    subst (MakesRows (Some _) t) (sym c.in-Some.is ∙ c.in_ok-rows.ensures.evaluated shown stamp bs are above) (record {
-      edited = subst (λ (e : Edits). IsEdited c.in_ok-edited.edited e t) made.edits
-          (c.in_ok-edited.ensures.edited later);
-      plus = made.plus;
-      minus = made.minus;
-    })
+    let now = evaluated_at (after_all stamp c.args.moment bs (objects_in c.args.objects.now)) c.args.moment
+    (dynamic_of c.args.dynamic.now) in
+    let then = still_shown _ _ (filed_of c.args.table.now) c.in_ok-found.ensures.same own in
+    one_made t now _ _ (subst (λ (f : Option Rebased). RebasesTo (last_rows (table_meant t)) now f) c.in-Some.is
+    (c.in_ok-found.ensures.rebased shown own has stamp bs are above)) (c.in_ok-edited.ensures.edited then) refl refl

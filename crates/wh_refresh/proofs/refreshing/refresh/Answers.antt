@@ -67,7 +67,7 @@ brings_found stored s objects id moment ids all is brings =
     (brings s.last (subst (RiseAbove 0) (sym is) (rises (dynamics_of objects) id moment)))
 
 pub returns-in-Some-clause-refreshed : goal.returns-in-Some-clause-refreshed
-returns-in-Some-clause-refreshed g c shown s same =
+returns-in-Some-clause-refreshed g c shown stand s same =
     let objects = objects_in c.args.objects.now in
     let id = c.args.id in
     let up = gone_over objects (dynamics_in c.deref.result.now) id c.deref-2.result.now c.in_ok-ids.ids.items
@@ -80,7 +80,7 @@ returns-in-Some-clause-refreshed g c shown s same =
     (first_of (why ∷ besides c.args.asked objects id ∷ [])) (found s objects id c.args.moment)) lost
 
 pub returns-in-Some-2-clause-refreshed : goal.returns-in-Some-2-clause-refreshed
-returns-in-Some-2-clause-refreshed g c shown s same =
+returns-in-Some-2-clause-refreshed g c shown stand s same =
     let objects = objects_in c.args.objects.now in
     let id = c.args.id in
     let gone = gone_over objects (dynamics_in c.deref.result.now) id c.push.new.self.items c.in_ok-ids.ids.items
@@ -125,7 +125,7 @@ module _ (g : Over) (c : After-bring_all g) where
       brought_by s objects c.args.asked c.args.id c.args.moment same lost suspended
 
 pub returns-in_default-3-clause-refreshed : goal.returns-in_default-3-clause-refreshed
-returns-in_default-3-clause-refreshed g c shown s same =
+returns-in_default-3-clause-refreshed g c shown stand s same =
     let after = (goal.at.returns-in_default-3-clause-refreshed g c).After-bring_all in
     let stored = stored_in c.args.objects.now in
     let id = c.args.id in
@@ -133,11 +133,11 @@ returns-in_default-3-clause-refreshed g c shown s same =
     let none : found s (objects g after) id moment ≡ None =
     subst (λ (all : Option (Vec Brought Global)). BringsOr stored all (found s (objects g after) id moment))
     c.in_default-3.is (brings_found stored s (objects g after) id moment (asked_ids g after) c.in_ok-all-2.field-0
-    (given g after) (c.in_ok-all-2.ensures.brought shown)) in
+    (given g after) (c.in_ok-all-2.ensures.brought shown stand)) in
     unrefused g after s same ∙ ap (refresh_by (objects g after) moment None) none
 
 pub returns-in-Some-number_refusal-clause-refreshed : goal.returns-in-Some-number_refusal-clause-refreshed
-returns-in-Some-number_refusal-clause-refreshed g c shown s same =
+returns-in-Some-number_refusal-clause-refreshed g c shown stand s same =
     let after = (goal.at.returns-in-Some-number_refusal-clause-refreshed g c).After-bring_all in
     let stored = stored_in c.args.objects.now in
     let id = c.args.id in
@@ -146,7 +146,7 @@ returns-in-Some-number_refusal-clause-refreshed g c shown s same =
     subst (λ (all : Option (Vec Brought Global)). BringsOr stored all (found s (objects g after) id moment))
     c.in-Some-3.is
     (brings_found stored s (objects g after) id moment (asked_ids g after) c.in_ok-all-2.field-0 (given g after)
-    (c.in_ok-all-2.ensures.brought shown)) in
+    (c.in_ok-all-2.ensures.brought shown stand)) in
     unrefused g after s same
     ∙ ap (refresh_by (objects g after) moment None) brings.is
     ∙ ap (λ (why : Option Refusal). unless_past why (map (told_of (objects g after) moment) brings.brought)
@@ -156,7 +156,7 @@ returns-in-Some-number_refusal-clause-refreshed g c shown s same =
     ∙ ap (option_map refusal_view) c.in-Some-number_refusal.is)
 
 pub returns-clause-refreshed : goal.returns-clause-refreshed
-returns-clause-refreshed g c shown s same =
+returns-clause-refreshed g c shown stand s same =
     let after = (goal.at.returns-clause-refreshed g c).After-bring_all in
     let stored = stored_in c.args.objects.now in
     let id = c.args.id in
@@ -165,7 +165,7 @@ returns-clause-refreshed g c shown s same =
     subst (λ (all : Option (Vec Brought Global)). BringsOr stored all (found s (objects g after) id moment))
     c.in-Some-3.is
     (brings_found stored s (objects g after) id moment (asked_ids g after) c.in_ok-all-2.field-0 (given g after)
-    (c.in_ok-all-2.ensures.brought shown)) in
+    (c.in_ok-all-2.ensures.brought shown stand)) in
     let acts : List Act = flat_map (acts_of_one moment) brings.brought in
     let above : AreAbove 0 brings.brought = above_rise 0 brings.brought (subst (RiseAbove 0)
     (sym (brought_ids s.last moment (brought (dynamics_of (objects g after)) id moment) (objects g after) brings.brought

@@ -11,8 +11,9 @@ use Rattle.wh_machine.specs.Brought.{after_all, edits_sought}
 use Rattle.wh_version.proofs.Among.{each_held}
 use Rattle.wh_table.specs.Table.{table_of, filed_of}
 use Rattle.wh_refresh.specs.Brought.{IsRowsOf}
-use Rattle.wh_refresh.specs.Objects.{objects_in, stored_in, filed_at_objects}
-use Rattle.wh_refresh.specs.Sources.{bag_held}
+use Rattle.wh_refresh.specs.Objects.{objects_in, stored_in, filed_at_objects, filed_at_id}
+use Rattle.wh_refresh.specs.Sources.{bag_held, IsPartOf}
+use Rattle.wh_refresh.proofs.PartLaws.{part_none, part_alone, part_front}
 use Rattle.wh_refresh.proofs.RefreshLemmas.{source_none, source_old, source_new, same_next, none_there}
 use Rattle.wh_refresh.proofs.SourceLemmas.{held_none, held_alone, held_beside}
 use Rattle.wh_refresh.proofs.sources.source_held.Goals as goal
@@ -67,3 +68,32 @@ pub returns-in_ok-filed-in-None-clause-among : goal.returns-in_ok-filed-in-None-
 returns-in_ok-filed-in-None-clause-among c =
     each_held (Contains (filed_at_objects c.args.objects.now)) (filed_at c.in_ok-filed-in-None.filed.items)
     (filed_of c.in-Some.table.now) c.in_ok-filed-in-None.ensures.among c.in-Some.ensures.among
+
+-- ---- parts of those that its table has
+
+pub returns-in_default-clause-part : goal.returns-in_default-clause-part
+returns-in_default-clause-part c bs are =
+    part_none (filed_at_id c.args.objects.now c.args.id) _ c.new.ensures.items
+
+pub returns-in_ok-filed-in-Some-new_rows_of-clause-part : goal.returns-in_ok-filed-in-Some-new_rows_of-clause-part
+returns-in_ok-filed-in-Some-new_rows_of-clause-part c bs are =
+    let id = c.args.id in
+    let stored = stored_in c.args.objects.now in
+    let all = filed_at_id c.args.objects.now id in
+    let filed = c.in_ok-filed-in-Some-new_rows_of.filed.items in
+    let new = c.in-Some-new_rows_of.rows.now in
+    let by_edits : (edits : Option Edits) → IsRowsOf stored id (Some new) edits → IsPartOf all (filed_at filed) =
+    elim [
+      | None ↦ λ is. absurd is
+      | Some e ↦ λ is.
+          part_front (filed_of c.in-Some.table.now) all filed new.edited.added.items _ c.in-Some.ensures.filed
+          c.in_ok-filed-in-Some-new_rows_of.ensures.among (c.in_ok-filed-in-Some-new_rows_of.ensures.holds 0 e
+          (is.edited (table_of c.in-Some.table.now) (sym c.in-Some.ensures.stored)))
+    ] in
+    by_edits (edits_sought id bs) (c.in-Some-new_rows_of.ensures stored bs are)
+
+pub returns-in_ok-filed-in-None-clause-part : goal.returns-in_ok-filed-in-None-clause-part
+returns-in_ok-filed-in-None-clause-part c bs are =
+    part_alone (filed_of c.in-Some.table.now) (filed_at_id c.args.objects.now c.args.id)
+    c.in_ok-filed-in-None.filed.items _ c.in-Some.ensures.filed c.in_ok-filed-in-None.ensures.among
+    c.in_ok-filed-in-None.ensures.holds

@@ -1,11 +1,13 @@
-use Rattle.std.proofs.Common.{ℕ, ◌≡◌, ◌≤◌, ◌∙◌, sym, subst, rules}
+use Rattle.std.proofs.Common.{ℕ, ◌≡◌, ◌≤◌, sym, subst, rules}
 use Rattle.std.specs.Prelude.{if◌then◌else◌}
 use Rattle.wh_reply.specs.Reply.{Reply, print, is_refusal}
 use Rattle.wh_reply.specs.View.{reply_view}
 use Rattle.wh_machine.specs.Step.{step}
 use Rattle.wh_decide.specs.Event.{event_of}
 use Rattle.wh_engine.specs.Warehouse.{machine_of}
+use Rattle.wh_engine.specs.Answers.{Answered}
 use Rattle.wh_engine.specs.Leaves.{StandsForEither}
+use Rattle.wh_shell.specs.Open.{IsTold}
 use Rattle.wh_shell.specs.Serving.{HaltsBy, Halts}
 use Rattle.wh_shell.specs.Writing.{Writes, WritesFront}
 use Rattle.wh_shell.specs.Fault.{fault_of_halt}
@@ -37,7 +39,8 @@ module _ (g : Over) (c : After-carry_out g) where
       halts_before g.K.Sink old new event c.args.out.now why
       (λ told. leaves_now g.D.Disk g.met.D.Disk.counts_now old.fetch.disk
       new.fetch.disk (StandsForEither m.state (step m event).0.state)
-      (leaves_open old new (step m event).0.state c.requires told c.carry_out.ensures.any_moment)) cause
+      (leaves_open old new (step m event).0.state c.requires told
+      (c.carry_out.ensures.any_moment told.sound.state))) cause
 
 -- ---- the reply was written
 
@@ -46,7 +49,7 @@ returns-clause-carried g c = λ told.
     let old = c.args.warehouse.now in
     let new = c.carry_out.new.self in
     let event = event_of c.args.event.now in
-    let h = c.in_ok-reply.ensures.answered (shows_open old c.requires told) in
+    let h = c.in_ok-reply.ensures.answered (shows_open old c.requires told.told) told.sound.state in
     record {
       room = h.carried.room;
       reach = reach_carried old new event h.carried;
@@ -63,8 +66,10 @@ returns-clause-few g c =
 
 pub returns-clause-ready : goal.returns-clause-ready
 returns-clause-ready g c =
-    stays_open c.args.warehouse.now c.carry_out.new.self c.requires c.in_ok-reply.ensures.carried
+    let old = c.args.warehouse.now in
+    stays_open old c.carry_out.new.self (event_of c.args.event.now) c.requires c.in_ok-reply.ensures.carried
     c.carry_out.ensures.limit
+    (λ told. (c.in_ok-reply.ensures.answered (shows_open old c.requires told.told) told.sound.state).carried.stepped)
 
 -- ---- the engine halted
 
@@ -79,7 +84,7 @@ returns-in_err-reply-clause-halts g c =
     c.from_residual.ensures.1
     (halts g (goal.at.returns-in_err-reply-clause-halts g c).After-carry_out (fault_of_halt halt)
     (halt_cause g.K.Sink old new event out halt c.requires c.in_err-reply.ensures.stopped
-    (λ told. c.in_err-reply.ensures.halted (shows_open old c.requires told))))
+    (λ told. c.in_err-reply.ensures.halted (shows_open old c.requires told.told) told.sound.state)))
 
 -- ---- no memory for the text of the reply
 
@@ -100,11 +105,14 @@ returns-in_err-write_all-clause-halts g c =
     let out = c.args.out.now in
     let out_new = c.write_all.new.out in
     let rose : HaltsBy g.K.Sink old new event out out_new Output = search rules in
-    let stays = stays_open old new c.requires c.in_ok-reply.ensures.carried c.carry_out.ensures.limit in
+    let answered : IsTold old → Answered old new event (reply_view c.in_ok-reply.reply) =
+    λ told. c.in_ok-reply.ensures.answered (shows_open old c.requires told.told) told.sound.state in
+    let stays = stays_open old new event c.requires c.in_ok-reply.ensures.carried c.carry_out.ensures.limit
+    (λ told. (answered told).carried.stepped) in
     passed_on (Halts g.K.Sink old new event out out_new) c.from_residual-in_err-write_all.result Output
     c.from_residual-in_err-write_all.ensures.1
     (halts_behind g.K.Sink old new event out out_new Output
-    (λ told. (c.in_ok-reply.ensures.answered (shows_open old c.requires told)).carried.stepped)
-    (λ told. open_stands g.met.D.Disk.only_now g.met.D.Disk.counts_now new stays.opens (stays.told ∙ told))
+    (λ told. (answered told).carried.stepped)
+    (λ told. open_stands g.met.D.Disk.only_now g.met.D.Disk.counts_now new stays.opens (stays.sound told))
     (λ told. subst (λ (r : Reply). WritesFront (print r) (g.K.Sink.held out) (g.K.Sink.held out_new))
-    (c.in_ok-reply.ensures.answered (shows_open old c.requires told)).replied (search rules)) rose)
+    (answered told).replied (search rules)) rose)

@@ -1,4 +1,4 @@
-use Rattle.std.proofs.Common.{◌≡◌, ◌∙◌, None, refl, ap, arith, rules}
+use Rattle.std.proofs.Common.{◌≡◌, None, ap, arith, rules}
 use Rattle.std.specs.Prelude.{option_map, Err}
 use Rattle.wh_journal.specs.Journal.{limit_of}
 use Rattle.wh_engine.specs.Warehouse.{machine_of}
@@ -17,7 +17,7 @@ use Rattle.wh_shell.proofs.Progress.{goes_not_yet, goes_more, stops_more, serves
 use Rattle.wh_shell.proofs.CauseLemmas.{passed_on}
 use Rattle.wh_shell.proofs.CountLemmas.{counts_none, counts_on, long_read, long_stop, status_passed}
 use Rattle.wh_shell.proofs.CountLemmas.{err_same, ok_isnt}
-use Rattle.wh_shell.proofs.Safety.{leaves_open, leaves_same, none_safely}
+use Rattle.wh_shell.proofs.Safety.{leaves_open, leaves_same, stays_none, stays_then, none_safely}
 use Rattle.wh_shell.proofs.TickingLemmas.{taken_not_yet, taken_on, taken_all, taken_stop}
 use Rattle.wh_shell.proofs.serving.serve.Goals as goal
 
@@ -37,7 +37,7 @@ turns-init g c =
           (leaves_same g.met.D.Disk.only_now w (machine_of w).state));
       few = omega arith;
       fault = c.new-reader.ensures.fault;
-      ready = record { opens = c.requires; told = refl; limit = refl };
+      ready = stays_none w c.requires;
       counts = counts_none c.new-reader.result.script left;
       later = record { disk = omega arith; script = omega arith; out = omega arith };
       clock = taken_not_yet g.C.Clock c.args.system (option_map events left) (unread c.new-reader.result left)
@@ -66,14 +66,10 @@ turns-preserved g c =
           (point_of c.turn.new.warehouse
           (awaited system (g.C.Clock.readings c.turn.new.clock) c.turn.new.reader left_new)
           c.turn.new.script c.turn.new.out)
-          c.turns.refused c.in-Some.refusals so_far.ready.limit (λ told. so_far.ready.told ∙ told) so_far.goes answers;
+          c.turns.refused c.in-Some.refusals so_far.ready.limit so_far.ready.sound so_far.goes answers;
       few = omega (arith, answers.few, reads.progress, so_far.few);
       fault = reads.goes;
-      ready = record {
-        opens = ready.opens;
-        told = ready.told ∙ so_far.ready.told;
-        limit = ready.limit ∙ so_far.ready.limit;
-      };
+      ready = stays_then c.args.warehouse.now old c.turn.new.warehouse so_far.ready ready;
       counts = counts_on c.new-reader.result.script c.turns.reader.script c.turn.new.reader.script
           left left_old left_new so_far.counts reads.counts;
       later = record {
@@ -100,7 +96,7 @@ returns-in_err-found-clause-stopped g c =
     let so_far = c.turns.invariant in
     passed_on (Stops g.D.Disk g.S.Source g.K.Sink first new) c.from_residual.result why c.from_residual.ensures.1
     (stops_more g.D.Disk g.K.Sink g.S.Source first now new c.turns.refused why so_far.ready.limit
-    (λ told. so_far.ready.told ∙ told) so_far.later so_far.goes c.in_err-found.ensures.stopped)
+    so_far.ready.told so_far.ready.sound so_far.later so_far.goes c.in_err-found.ensures.stopped)
 
 pub returns-in_err-found-clause-long : goal.returns-in_err-found-clause-long
 returns-in_err-found-clause-long g c =
@@ -133,11 +129,15 @@ returns-in_default-clause-served g c =
     let none : c.in_ok-found.found ≡ None = search rules in
     let finds = rw none at c.in_ok-found.ensures.went in
     let so_far = c.turns.invariant in
-    serves_all g.D.Disk g.K.Sink g.S.Source first now new c.turns.refused (λ told. so_far.ready.told ∙ told)
-    so_far.goes finds
+    serves_all g.D.Disk g.K.Sink g.S.Source first now new c.turns.refused so_far.ready.sound so_far.goes finds
     (none_safely g.D.Disk g.K.Sink g.met.D.Disk.counts_now now new.world finds.out finds.disk
     (λ told. leaves_open old old (machine_of old).state so_far.ready.opens told
     (leaves_same g.met.D.Disk.only_now old (machine_of old).state)))
+
+pub returns-in_default-clause-ready : goal.returns-in_default-clause-ready
+returns-in_default-clause-ready g c =
+    stays_then c.args.warehouse.now c.turns.warehouse c.turn.new.warehouse c.turns.invariant.ready
+    c.in_ok-found.ensures.ready
 
 pub returns-in_default-clause-long : goal.returns-in_default-clause-long
 returns-in_default-clause-long g c =

@@ -14,7 +14,7 @@ use Rattle.wh_shell.proofs.CountLemmas.{passed_reads, err_is, err_same, ok_isnt}
 use Rattle.wh_shell.proofs.Progress.{answers_first, stops_first, stops_none}
 use Rattle.wh_shell.proofs.TimingLemmas.{timed_gives, timed_ends}
 use Rattle.wh_shell.proofs.TickingLemmas.{taken_end, taken_one, taken_unread, taken_halted, taken_passed}
-use Rattle.wh_shell.proofs.Safety.{leaves_open, leaves_same, none_safely}
+use Rattle.wh_shell.proofs.Safety.{leaves_open, leaves_same, stays_none, none_safely}
 use Rattle.wh_shell.proofs.serving.turn.Goals as goal
 
 -- ---- the first event of what was left was answered
@@ -36,7 +36,7 @@ returns-clause-went g c =
     (event_of c.in-Some.event) event (rw c.in-Some.is at c.in_ok-event.ensures.turn) c.timed-event.ensures.event)
     c.in_ok-refusals.ensures.carried
     (λ told. leaves_open old new (step (machine_of old) event).0.state c.requires.ready told
-    c.answer.ensures.any_moment)
+    (c.answer.ensures.any_moment told.sound.state))
 
 pub returns-clause-reads : goal.returns-clause-reads
 returns-clause-reads g c = record {
@@ -61,6 +61,9 @@ returns-in_default-clause-went g c =
       disk = refl;
       out = refl;
     }
+
+pub returns-in_default-clause-ready : goal.returns-in_default-clause-ready
+returns-in_default-clause-ready g c = stays_none c.args.warehouse.now c.requires.ready
 
 pub returns-in_default-clause-reads : goal.returns-in_default-clause-reads
 returns-in_default-clause-reads g c = record {
@@ -126,7 +129,7 @@ returns-in_err-refusals-clause-stopped g c =
     (timed_gives c.args.system readings readings_new unread_old unread_new (event_of c.in-Some.event) event
     (rw c.in-Some.is at c.in_ok-event.ensures.turn) c.timed-event.ensures.event)
     (λ told. leaves_open old new (step (machine_of old) event).0.state c.requires.ready told
-    c.answer.ensures.any_moment)
+    (c.answer.ensures.any_moment told.sound.state))
     c.in_err-refusals.ensures.halts)
 
 pub returns-in_err-refusals-clause-full : goal.returns-in_err-refusals-clause-full

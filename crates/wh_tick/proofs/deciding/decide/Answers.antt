@@ -13,13 +13,14 @@ use Rattle.wh_decide.specs.Decision.{Decides, machine_at}
 use Rattle.wh_tick.proofs.deciding.decide.Goals as goal
 
 pub returns-in-Command-clause-decided : goal.returns-in-Command-clause-decided
-returns-in-Command-clause-decided g c = λ shown.
+returns-in-Command-clause-decided g c = λ shown sound.
     let catalog = c.args.catalog.now in
     let sessions = sessions_of c.args.sessions.now in
     let m = machine_at (stamped (state_of catalog) c.args.stamp) sessions in
     subst (λ (o : Outcome). IfOk c.decide_command.result (λ d. Decides (stored_of catalog) sessions c.args.stamp d o))
     (ap (λ (t : List ℕ). commanded m c.in-Command.session (request_of t)) c.as_slice.ensures
-    ∙ ap (λ (e : Event). outcome_of m (event_of e)) (sym c.in-Command.is)) (c.decide_command.ensures.comes shown)
+    ∙ ap (λ (e : Event). outcome_of m (event_of e)) (sym c.in-Command.is))
+    (c.decide_command.ensures.comes shown sound)
 
 pub returns-in-Command-clause-staged : goal.returns-in-Command-clause-staged
 returns-in-Command-clause-staged g c =
@@ -34,12 +35,12 @@ returns-in-Command-clause-read g c =
     IfOk-weaker c.decide_command.result _ _ (λ _ ready. ready.read) c.decide_command.ensures.ready
 
 pub returns-in-Tick-clause-decided : goal.returns-in-Tick-clause-decided
-returns-in-Tick-clause-decided g c = λ shown.
+returns-in-Tick-clause-decided g c = λ shown sound.
     let catalog = c.args.catalog.now in
     let sessions = sessions_of c.args.sessions.now in
     let m = machine_at (stamped (state_of catalog) c.args.stamp) sessions in
     subst (λ (o : Outcome). IfOk c.decide_tick.result (λ d. Decides (stored_of catalog) sessions c.args.stamp d o))
-    (ap (λ (e : Event). outcome_of m (event_of e)) (sym c.in-Tick.is)) (c.decide_tick.ensures.comes shown)
+    (ap (λ (e : Event). outcome_of m (event_of e)) (sym c.in-Tick.is)) (c.decide_tick.ensures.comes shown sound)
 
 pub returns-in-Tick-clause-staged : goal.returns-in-Tick-clause-staged
 returns-in-Tick-clause-staged g c =

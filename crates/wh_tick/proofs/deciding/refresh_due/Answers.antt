@@ -12,17 +12,17 @@ pub due_table-requires : goal.due_table-requires
 due_table-requires g c = omega (arith, c.in_ok-all.ensures.bounded, ap length c.deref.ensures.value)
 
 pub returns-in-Some-clause-comes : goal.returns-in-Some-clause-comes
-returns-in-Some-clause-comes g c = λ shown.
+returns-in-Some-clause-comes g c = λ shown sound.
     let sight = c.args.sight.now in
     comes_as sight c.scheduled_refresh.result
     (ap (refreshes (machine_in sight))
     (sym (ap due_of c.in-Some.is) ∙ c.in_ok-id.ensures
     ∙ ap (λ (all : Dynamics). due_table all sight.stamp)
     (ap dynamics_in c.deref.ensures.value ∙ c.in_ok-all.ensures.watched ∙ sym (dynamics_are sight.catalog.now))))
-    (c.scheduled_refresh.ensures.comes shown)
+    (c.scheduled_refresh.ensures.comes shown sound)
 
 pub returns-clause-comes : goal.returns-clause-comes
-returns-clause-comes g c = λ _.
+returns-clause-comes g c = λ _ _.
     let sight = c.args.sight.now in
     decides_as sight c.idle.result
     (ap (refreshes (machine_in sight))

@@ -5,6 +5,7 @@ use Rattle.wh_reply.specs.Reply.{Reply}
 use Rattle.wh_reply.specs.View.{reply_view}
 use Rattle.wh_state.specs.Commit.{Commit}
 use Rattle.wh_state.specs.Orderly.{IsOrderlyStored}
+use Rattle.wh_state.specs.Sound.{Sound}
 use Rattle.wh_journal.specs.Journal.{failed_of}
 use Rattle.wh_machine.specs.Outcome.{Machine}
 use Rattle.wh_machine.specs.Step.{reading_of, stamp_of}
@@ -18,7 +19,7 @@ use Rattle.wh_engine.specs.declared.fault.Halt.{Halt}
 use Rattle.wh_engine.specs.Answers.{CarriesOut}
 use Rattle.wh_engine.specs.Halts.{Halted, HaltedSome}
 use Rattle.wh_engine.specs.Leaves.{Leaves}
-use Rattle.wh_engine.proofs.ReadLemmas.{read_then, shows_behind, machine_behind, made_behind, led_behind}
+use Rattle.wh_engine.proofs.ReadLemmas.{read_then, shows_behind, sound_behind, machine_behind, made_behind, led_behind}
 use Rattle.wh_engine.proofs.StopLemmas.{leaves_still, leaves_behind, leaves_shown}
 use Rattle.wh_engine.proofs.HaltLemmas.{reopens, halted_behind, passed_on}
 use Rattle.wh_engine.proofs.CarryLemmas.{carries_nothing, carries_behind, answered_behind}
@@ -39,7 +40,7 @@ module _ (g : Over) (c : After-begin g) where
       leaves_still g.met.D.Disk.only_now c.args.self.now c.begin.new.self _ c.begin.ensures.same.disk
 
 pub returns-in-Some-clause-halted : goal.returns-in-Some-clause-halted
-returns-in-Some-clause-halted g c = λ shown.
+returns-in-Some-clause-halted g c = λ shown sound.
     reopens c.args.self.now c.begin.new.self _ c.in-Some.faults c.begin.ensures.same
     (omega (arith, begun_faults g (goal.at.returns-in-Some-clause-halted g c).After-begin))
     (sym (ap failed_of c.begin.ensures.same.journal) ∙ sym c.failed.ensures ∙ c.in-Some.is)
@@ -53,12 +54,13 @@ returns-in-Some-clause-stopped g c = record {
 }
 
 pub returns-in-Some-clause-any_moment : goal.returns-in-Some-clause-any_moment
-returns-in-Some-clause-any_moment g c = begun_leaves g (goal.at.returns-in-Some-clause-any_moment g c).After-begin
+returns-in-Some-clause-any_moment g c = λ sound.
+    begun_leaves g (goal.at.returns-in-Some-clause-any_moment g c).After-begin
 
 -- ---- no stamp is left
 
 pub returns-then-bound-stamp-clause-answered : goal.returns-then-bound-stamp-clause-answered
-returns-then-bound-stamp-clause-answered g c = λ shown.
+returns-then-bound-stamp-clause-answered g c = λ shown sound.
     let old = c.args.self.now in
     let new = c.begin.new.self in
     let same = c.begin.ensures.same in
@@ -99,7 +101,7 @@ returns-then-bound-stamp-clause-carried g c =
     }
 
 pub returns-then-bound-stamp-clause-any_moment : goal.returns-then-bound-stamp-clause-any_moment
-returns-then-bound-stamp-clause-any_moment g c =
+returns-then-bound-stamp-clause-any_moment g c = λ sound.
     begun_leaves g (goal.at.returns-then-bound-stamp-clause-any_moment g c).After-begin
 
 -- ---- nothing was decided
@@ -116,7 +118,7 @@ module _ (g : Over) (c : After-decide g) where
       (omega (arith, ap g.D.Disk.faults c.begin.ensures.disk)) halted
 
 pub returns-in_err-decision-clause-halted : goal.returns-in_err-decision-clause-halted
-returns-in_err-decision-clause-halted g c = λ shown.
+returns-in_err-decision-clause-halted g c = λ shown sound.
     let commit = made_in c.args.self.now (event_of c.args.event.now) in
     let halt = c.in_err-decision.field-0.0 in
     passed_on c.from_residual.result halt
@@ -135,7 +137,7 @@ returns-in_err-decision-clause-stopped g c =
     })
 
 pub returns-in_err-decision-clause-any_moment : goal.returns-in_err-decision-clause-any_moment
-returns-in_err-decision-clause-any_moment g c =
+returns-in_err-decision-clause-any_moment g c = λ sound.
     leaves_still g.met.D.Disk.only_now c.args.self.now c.decide.new.self _
     (read g (goal.at.returns-in_err-decision-clause-any_moment g c).After-decide).disk
 
@@ -165,10 +167,11 @@ module _ (g : Over) (c : After-settle g) where
   no_fault : g.D.Disk.faults c.decide.new.self.fetch.disk ≡ g.D.Disk.faults c.args.self.now.fetch.disk
   no_fault = c.in_ok-decision.ensures.no_fault ∙ ap g.D.Disk.faults c.begin.ensures.disk
 
-  decided : ShowsAll c.args.self.now → Comes (stored_of c.decide.new.self.catalog) (machine_of c.decide.new.self)
+  decided : ShowsAll c.args.self.now → Sound (state_of c.args.self.now.catalog)
+      → Comes (stored_of c.decide.new.self.catalog) (machine_of c.decide.new.self)
       (event_of c.args.event.now) c.max-stamp.result c.into_parts-reply.result.1
       (reply_view c.into_parts-reply.result.0)
-  decided shown =
+  decided shown sound =
       let w = c.decide.new.self in
       let same = sym c.decide.ensures.same.catalog in
       turns w.catalog (sessions_of w.sessions) (event_of c.args.event.now)
@@ -176,29 +179,31 @@ module _ (g : Over) (c : After-settle g) where
       (subst (λ (catalog : Catalog). IsOrderlyStored (stored_of catalog)) same c.last.ensures.orderly)
       c.reading.ensures (c.last.ensures.last ∙ ap (λ (catalog : Catalog). (state_of catalog).last) same)
       c.bound.ensures c.max-stamp.ensures c.if-bound-stamp.false
-      (c.in_ok-decision.ensures.decides (shows_behind c.args.self.now c.begin.new.self c.begin.ensures.same shown))
+      (c.in_ok-decision.ensures.decides (shows_behind c.args.self.now c.begin.new.self c.begin.ensures.same shown)
+      (sound_behind c.args.self.now c.begin.new.self c.begin.ensures.same sound))
       c.into_parts-reply.ensures.settlement c.into_parts-reply.ensures.reply
 
   -- what the commit and the state are of the warehouse that the event came to
-  commit_made : ShowsAll c.args.self.now
+  commit_made : ShowsAll c.args.self.now → Sound (state_of c.args.self.now.catalog)
       → commit_in c.into_parts-reply.result.1 ≡ made_in c.args.self.now (event_of c.args.event.now)
-  commit_made shown =
-      sym (decided shown).commit
+  commit_made shown sound =
+      sym (decided shown sound).commit
       ∙ made_behind c.args.self.now c.decide.new.self (event_of c.args.event.now) read_first
 
-  any_moment : Leaves c.args.self.now c.settle.new.self (led_to c.args.self.now (event_of c.args.event.now)).state
-  any_moment =
+  any_moment : Sound (state_of c.args.self.now.catalog)
+      → Leaves c.args.self.now c.settle.new.self (led_to c.args.self.now (event_of c.args.event.now)).state
+  any_moment sound =
       let old = c.args.self.now in
       let mid = c.decide.new.self in
       let e = event_of c.args.event.now in
       leaves_shown g.met.D.Disk.only_now old c.settle.new.self (led_to old e).state
       (λ shown. leaves_behind g.met.D.Disk.only_now old mid c.settle.new.self (led_to old e).state read_first
       (subst (Leaves mid c.settle.new.self)
-      (sym (ap (λ (m : Machine). m.state) (decided shown).leaves)
+      (sym (ap (λ (m : Machine). m.state) (decided shown sound).leaves)
       ∙ ap (λ (m : Machine). m.state) (led_behind old mid e read_first)) c.settle.ensures.any_moment))
 
 pub returns-in_err-settle-clause-halted : goal.returns-in_err-settle-clause-halted
-returns-in_err-settle-clause-halted g c = λ shown.
+returns-in_err-settle-clause-halted g c = λ shown sound.
     let at = (goal.at.returns-in_err-settle-clause-halted g c).After-settle in
     let old = c.args.self.now in
     let new = c.settle.new.self in
@@ -207,7 +212,7 @@ returns-in_err-settle-clause-halted g c = λ shown.
     passed_on c.from_residual-in_err-settle.result halt (λ h. Halted old new commit h)
     c.from_residual-in_err-settle.ensures.1
     (halted_behind old c.decide.new.self new commit halt (read_first g at) (omega (arith, no_fault g at))
-    (subst (λ (some : Option Commit). Halted c.decide.new.self new some halt) (commit_made g at shown)
+    (subst (λ (some : Option Commit). Halted c.decide.new.self new some halt) (commit_made g at shown sound)
     c.in_err-settle.ensures.halted))
 
 pub returns-in_err-settle-clause-stopped : goal.returns-in_err-settle-clause-stopped
@@ -228,12 +233,12 @@ returns-in_err-settle-clause-any_moment g c =
     any_moment g (goal.at.returns-in_err-settle-clause-any_moment g c).After-settle
 
 pub returns-clause-answered : goal.returns-clause-answered
-returns-clause-answered g c = λ shown.
+returns-clause-answered g c = λ shown sound.
     let at = (goal.at.returns-clause-answered g c).After-settle in
     let old = c.args.self.now in
     let mid = c.decide.new.self in
     let e = event_of c.args.event.now in
-    let h = decided g at shown in
+    let h = decided g at shown sound in
     answered_behind old mid c.settle.new.self e (reply_view c.into_parts-reply.result.0) (read_first g at)
     (no_fault g at)
     (record { replied = h.replied; carried = rw (h.commit, h.leaves) c.in_ok-settle.ensures.answered })

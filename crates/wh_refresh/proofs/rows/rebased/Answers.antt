@@ -13,9 +13,9 @@ use Rattle.wh_version.proofs.Among.{each_held}
 use Rattle.wh_table.specs.Table.{table_of, filed_of}
 use Rattle.wh_table.specs.Rows.{all_rows, partitions_at}
 use Rattle.wh_table.specs.Shown.{Holds}
-use Rattle.wh_refresh.proofs.bringing.rebased.Given.{Over}
-use Rattle.wh_refresh.proofs.bringing.rebased.Goals.{After-deref}
-use Rattle.wh_refresh.proofs.bringing.rebased.Goals as goal
+use Rattle.wh_refresh.proofs.rows.rebased.Given.{Over}
+use Rattle.wh_refresh.proofs.rows.rebased.Goals.{After-deref}
+use Rattle.wh_refresh.proofs.rows.rebased.Goals as goal
 
 -- what holds of the table's partitions holds of those that stand
 each_there : (P : Filed → Type 0) (g : Over) (c : After-deref g) → AllByRecursion P (filed_of c.args.table.now)

@@ -15,9 +15,9 @@ use Rattle.wh_machine.specs.Brought.{after_all}
 use Rattle.wh_refresh.specs.Objects.{objects_in, filed_at_objects}
 use Rattle.wh_refresh.specs.Sources.{bags_held, filed_held}
 use Rattle.wh_refresh.proofs.RefreshLemmas.{evaluated_over}
-use Rattle.wh_refresh.proofs.bringing.rows_by_query.Given.{Over}
-use Rattle.wh_refresh.proofs.bringing.rows_by_query.Goals.{After-deref-2}
-use Rattle.wh_refresh.proofs.bringing.rows_by_query.Goals as goal
+use Rattle.wh_refresh.proofs.rows.rows_by_query.Given.{Over}
+use Rattle.wh_refresh.proofs.rows.rows_by_query.Goals.{After-deref-2}
+use Rattle.wh_refresh.proofs.rows.rows_by_query.Goals as goal
 
 -- what holds of the partitions of all objects holds of those of the sources
 each_there : (P : Filed → Type 0) (g : Over) (c : After-deref-2 g)

@@ -1,0 +1,6 @@
+pub mod Walk
+pub mod Chosen
+pub mod Arms
+pub mod MovedLaws
+pub mod Places
+pub mod FoundLaws

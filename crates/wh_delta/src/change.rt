@@ -1,0 +1,101 @@
+ghost use Rattle.std.specs.Prelude.{◌≡◌, Some, false, IfOk};
+ghost use Rattle.wh_fetch.specs.Device.{Counts};
+ghost use Rattle.wh_filed.specs.Fetching.{IsShownBy, AllShownBy, IsCovered, AllCovered};
+ghost use Rattle.wh_meaning.specs.Bag.{Bag, bag_of};
+ghost use Rattle.wh_meaning.specs.BagChange.{IsNet};
+ghost use Rattle.wh_meaning.specs.Query.{eval};
+ghost use Rattle.wh_algebra.specs.View.{query_of};
+ghost use Rattle.wh_exec.specs.Source.{instance_in, filed_in};
+ghost use Rattle.wh_maintenance.specs.Delta.{Carries};
+ghost use Rattle.wh_maintenance.specs.Delta as changes;
+ghost use Rattle.wh_delta.specs.Moves.{change_found};
+ghost use Rattle.wh_delta.specs.Moved.{AreNumbered, HoldsFor};
+ghost use Rattle.wh_delta.specs.Found.{FindsNet, IsApart};
+
+use crate::carrying::carried;
+use crate::moved::{moved, sources_held};
+use crate::moves::{Changing, Moves};
+use crate::reading::{linear, net_over};
+use crate::staying::counted;
+use std::alloc::{AllocError, Global};
+use wh_algebra::Query;
+use wh_bag::{Signed, net};
+use wh_exec::Source;
+use wh_fetch::{Fetch, FetchFault};
+
+/// The net change of a query's rows, from what its sources held before to what they hold now, where
+/// it had rows before; None where it has none now. Of a linear query only the partitions are read
+/// that one of the two instances lacks, and of any other those of the sources before too.
+pub fn delta<F: Fetch>(
+    alloc: Global,
+    query: &Query,
+    old: &[Source<'_>],
+    new: &[Source<'_>],
+    fetch: &mut F,
+) -> Result<Option<Signed>, FetchFault>
+    requires { HoldsFor (IsCovered (F.covers fetch.old)) (query_of query.now) old.now new.now }
+    ensures change { HoldsFor (IsShownBy (F.contents fetch.old)) (query_of query.now) old.now new.now
+        → AreNumbered old.now new.now → IfOk result (λ found. (was : Bag)
+        → eval (query_of query.now) (instance_in old.now) ≡ Some was
+        → FindsNet was (eval (query_of query.now) (instance_in new.now)) found) }
+    ensures apart { IfOk result IsApart }
+    ensures sound { HoldsFor (IsShownBy (F.contents fetch.old)) (query_of query.now) old.now new.now
+        → F.damage fetch.new ≡ F.damage fetch.old }
+    ensures same { F.contents fetch.new ≡ F.contents fetch.old }
+    ensures goes { F.stays fetch.old fetch.new }
+    ensures counts { Counts (F.faults fetch.old) (F.faults fetch.new) result }
+{
+    let came = moved(alloc, new, old)?;
+    let gone = moved(alloc, old, new)?;
+    let comes = sources_held(alloc, &came)?;
+    let goes = sources_held(alloc, &gone)?;
+    let Some(moves) = moves_of(alloc, query, old, &comes, &goes, fetch)? else {
+        return Ok(None);
+    };
+    let net = signed(alloc, &moves)?;
+    Ok(Some(net))
+}
+
+fn moves_of<F: Fetch>(
+    alloc: Global,
+    query: &Query,
+    old: &[Source<'_>],
+    comes: &[Source<'_>],
+    goes: &[Source<'_>],
+    fetch: &mut F,
+) -> Result<Option<Moves>, FetchFault>
+    requires comes { AllCovered (F.covers fetch.old) (filed_in comes.now) }
+    requires goes { AllCovered (F.covers fetch.old) (filed_in goes.now) }
+    requires stays { changes.linear (query_of query.now) ≡ false
+        → AllCovered (F.covers fetch.old) (filed_in old.now) }
+    ensures change { AllShownBy (F.contents fetch.old) (filed_in comes.now)
+        → AllShownBy (F.contents fetch.old) (filed_in goes.now)
+        → (changes.linear (query_of query.now) ≡ false
+        → AllShownBy (F.contents fetch.old) (filed_in old.now)) → IfOk result
+        (λ found. Carries (query_of query.now)
+        (record { old = instance_in old.now; comes = instance_in comes.now; goes = instance_in goes.now })
+        (change_found found)) }
+    ensures sound { AllShownBy (F.contents fetch.old) (filed_in comes.now)
+        → AllShownBy (F.contents fetch.old) (filed_in goes.now)
+        → (changes.linear (query_of query.now) ≡ false
+        → AllShownBy (F.contents fetch.old) (filed_in old.now))
+        → F.damage fetch.new ≡ F.damage fetch.old }
+    ensures same { F.contents fetch.new ≡ F.contents fetch.old }
+    ensures goes { F.stays fetch.old fetch.new }
+    ensures counts { Counts (F.faults fetch.old) (F.faults fetch.new) result }
+{
+    if linear(query) {
+        return net_over(alloc, query, comes, goes, fetch);
+    }
+    let sources = Changing { old, comes, goes };
+    carried(alloc, query, &sources, fetch)
+}
+
+fn signed(alloc: Global, moves: &Moves) -> Result<Signed, AllocError>
+    ensures { IfOk result (λ change. IsNet (bag_of moves.now.goes.items)
+        (bag_of moves.now.comes.items) change.plus change.minus) }
+{
+    let came = counted(alloc, &moves.comes)?;
+    let gone = counted(alloc, &moves.goes)?;
+    net(alloc, &gone, &came)
+}

@@ -1,0 +1,18 @@
+//! Changes of a query's rows, worked out from changes of its sources.
+#![tactic(auto)]
+
+mod at_hand;
+mod carrying;
+mod change;
+mod group;
+mod join;
+mod linear;
+mod moved;
+mod moves;
+mod plans;
+mod reading;
+mod staying;
+#[cfg(test)]
+mod worked;
+
+pub use change::delta;
