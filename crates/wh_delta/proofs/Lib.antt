@@ -3,4 +3,5 @@ pub mod Chosen
 pub mod Arms
 pub mod MovedLaws
 pub mod Places
+pub mod Rising
 pub mod FoundLaws

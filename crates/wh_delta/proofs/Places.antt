@@ -27,7 +27,7 @@ has_there (x ∷ xs) f zero g within at e =
 has_there (x ∷ xs) f (suc i) g within at e =
     or_true (same_number f x.now) (has same_number (filed_at xs) f) (has_there xs f i g (omega arith) at e)
 
-both_false : (a b : Bool) → a ≡ false → b ≡ false → a || b ≡ false
+pub both_false : (a b : Bool) → a ≡ false → b ≡ false → a || b ≡ false
 both_false true b e f = e
 both_false false b e f = f
 

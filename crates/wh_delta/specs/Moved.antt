@@ -5,9 +5,13 @@
 --     filed_bag, view_bag, filed_views     the bag of partitions and of a view, and the partitions of views
 --     moved_of           of sources by place: the partitions that others don't have, and the rows in memory
 --     AreNumbered        by place: no list has a number twice, and partitions of one number in both are one
+--     NumbersRise        each partition's number is below the next one's
+--     LowerBefore, NoneLowerAt   where a partition would stand among others by its number
 --     HoldsFor           what holds of each partition from which the change of a query is worked out
-use Rattle.std.specs.Prelude.{◌≡◌, true, false, Bool, nat_eq, List, [], ◌∷◌, map}
+use Rattle.std.specs.Prelude.{◌≡◌, ℕ, ◌+◌, ◌<◌, ◌≤◌, true, false, Bool, nat_eq, List, [], ◌∷◌, map, length}
+use Rattle.std.specs.Prelude.{slice_index_or as get_or}
 use Rattle.std.specs.List.{flat_map, AllByRecursion}
+use denote.Ref.{Bor}
 use Rattle.wh_filed.specs.Filed.{Filed, filed_at}
 use Rattle.wh_meaning.specs.Bag.{Bag, bag_of, plus}
 use Rattle.wh_meaning.specs.Query.{Query}
@@ -72,6 +76,21 @@ AllNumbered (v ∷ vs) (o ∷ os) = IsNumbered v.0 o.0 × AllNumbered vs os
 
 abbrev pub AreNumbered : List Source → List Source → Type 0
 AreNumbered old new = AllNumbered (views_of old) (views_of new)
+
+-- from a least one on
+abbrev pub NumbersRise : ℕ → List Filed → Type 0
+NumbersRise least [] = Unit {0}
+NumbersRise least (f ∷ fs) = (least ≤ f.partition.number) × NumbersRise (f.partition.number + 1) fs
+
+-- those in front of a place have lower numbers than a partition
+abbrev pub LowerBefore : Filed → List (Bor Filed) → ℕ → Type 0
+LowerBefore f others place = (k : ℕ) (d : Bor Filed) → k < place
+    → (get_or others k d).now.partition.number < f.partition.number
+
+-- and the one at the place hasn't, if there is one
+abbrev pub NoneLowerAt : Filed → List (Bor Filed) → ℕ → Type 0
+NoneLowerAt f others place = (d : Bor Filed) → place < length others
+    → f.partition.number ≤ (get_or others place d).now.partition.number
 
 -- ---- what is read
 

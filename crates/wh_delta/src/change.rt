@@ -1,12 +1,12 @@
-ghost use Rattle.std.specs.Prelude.{◌≡◌, Some, false, IfOk};
+ghost use Rattle.std.specs.Prelude.{◌≡◌, Some, true, false, IfOk};
 ghost use Rattle.wh_fetch.specs.Device.{Counts};
 ghost use Rattle.wh_filed.specs.Fetching.{IsShownBy, AllShownBy, IsCovered, AllCovered};
 ghost use Rattle.wh_meaning.specs.Bag.{Bag, bag_of};
 ghost use Rattle.wh_meaning.specs.BagChange.{IsNet};
-ghost use Rattle.wh_meaning.specs.Query.{eval};
+ghost use Rattle.wh_meaning.specs.Query.{Instance, eval};
 ghost use Rattle.wh_algebra.specs.View.{query_of};
 ghost use Rattle.wh_exec.specs.Source.{instance_in, filed_in};
-ghost use Rattle.wh_maintenance.specs.Delta.{Carries};
+ghost use Rattle.wh_maintenance.specs.Delta.{Carries, AreTurns};
 ghost use Rattle.wh_maintenance.specs.Delta as changes;
 ghost use Rattle.wh_delta.specs.Moves.{change_found};
 ghost use Rattle.wh_delta.specs.Moved.{AreNumbered, HoldsFor};
@@ -50,6 +50,39 @@ pub fn delta<F: Fetch>(
     let comes = sources_held(alloc, &came)?;
     let goes = sources_held(alloc, &gone)?;
     let Some(moves) = moves_of(alloc, query, old, &comes, &goes, fetch)? else {
+        return Ok(None);
+    };
+    let net = signed(alloc, &moves)?;
+    Ok(Some(net))
+}
+
+/// The net change of a linear query's rows, from what of its sources came and what of them went,
+/// where it had rows before; None where it has none now. What stays is not asked for.
+pub fn linear_delta<F: Fetch>(
+    alloc: Global,
+    query: &Query,
+    comes: &[Source<'_>],
+    goes: &[Source<'_>],
+    fetch: &mut F,
+) -> Result<Option<Signed>, FetchFault>
+    requires linear { changes.linear (query_of query.now) ≡ true }
+    requires comes { AllCovered (F.covers fetch.old) (filed_in comes.now) }
+    requires goes { AllCovered (F.covers fetch.old) (filed_in goes.now) }
+    ensures change { AllShownBy (F.contents fetch.old) (filed_in comes.now)
+        → AllShownBy (F.contents fetch.old) (filed_in goes.now)
+        → IfOk result (λ found. (old new : Instance) (was : Bag)
+        → AreTurns (record { old = old; comes = instance_in comes.now; goes = instance_in goes.now })
+        new → eval (query_of query.now) old ≡ Some was
+        → FindsNet was (eval (query_of query.now) new) found) }
+    ensures apart { IfOk result IsApart }
+    ensures sound { AllShownBy (F.contents fetch.old) (filed_in comes.now)
+        → AllShownBy (F.contents fetch.old) (filed_in goes.now)
+        → F.damage fetch.new ≡ F.damage fetch.old }
+    ensures same { F.contents fetch.new ≡ F.contents fetch.old }
+    ensures goes { F.stays fetch.old fetch.new }
+    ensures counts { Counts (F.faults fetch.old) (F.faults fetch.new) result }
+{
+    let Some(moves) = net_over(alloc, query, comes, goes, fetch)? else {
         return Ok(None);
     };
     let net = signed(alloc, &moves)?;

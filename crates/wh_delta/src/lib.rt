@@ -15,4 +15,5 @@ mod staying;
 #[cfg(test)]
 mod worked;
 
-pub use change::delta;
+pub use change::{delta, linear_delta};
+pub use reading::linear as is_linear;

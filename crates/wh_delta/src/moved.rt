@@ -2,10 +2,12 @@
 //! have, and the rows that stand in memory.
 ghost use Rattle.std.specs.Prelude.{◌≡◌, ◌++◌, [], ◌∷◌, true, false, is_some, None};
 ghost use Rattle.std.specs.Prelude.{OnSome, IfOk, OnOk};
+ghost use Rattle.std.specs.Bool.{OnTrue};
 ghost use Rattle.wh_filed.specs.Filed.{filed_at};
 ghost use Rattle.wh_maintenance.specs.Parts.{has};
 ghost use Rattle.wh_delta.specs.Moved as specs;
 ghost use Rattle.wh_delta.specs.Moved.{same_number, view_of, views_of, moved_of};
+ghost use Rattle.wh_delta.specs.Moved.{NumbersRise, LowerBefore, NoneLowerAt};
 ghost use Rattle.wh_delta.specs.Views.{view_held, views_held};
 
 use std::alloc::{AllocError, Global};
@@ -108,7 +110,8 @@ fn source_held<'a>(held: &'a Held<'_>) -> Source<'a>
 
 // ---- partitions by their numbers
 
-// The partitions whose numbers no other one has.
+// The partitions whose numbers no other one has. Both lists mostly rise by number: then one pass is
+// enough, however many partitions moved.
 fn only_in<'a>(
     alloc: Global,
     some: &[&'a FiledPartition],
@@ -117,6 +120,9 @@ fn only_in<'a>(
     ensures { IfOk result (λ found. filed_at found.items
         ≡ specs.only_in (filed_at some.now) (filed_at others.now)) }
 {
+    if rises(some) && rises(others) {
+        return only_by_walk(alloc, some, others);
+    }
     let mut found = Vec::new(alloc);
     let mut near = 0;
     for one in some {
@@ -167,4 +173,83 @@ fn place_from(one: &FiledPartition, others: &[&FiledPartition], from: usize) -> 
         }
     }
     None
+}
+
+// ---- partitions by rising numbers
+
+// Whether each number is below the next one.
+fn rises(partitions: &[&FiledPartition]) -> bool
+    ensures { OnTrue result (NumbersRise 0 (filed_at partitions.now)) }
+{
+    for place in 1..partitions.len() {
+        if partitions[place].number() <= partitions[place - 1].number() {
+            return false;
+        }
+    }
+    true
+}
+
+// The same, with one pass over both.
+fn only_by_walk<'a>(
+    alloc: Global,
+    some: &[&'a FiledPartition],
+    others: &[&FiledPartition],
+) -> Result<Vec<&'a FiledPartition>, AllocError>
+    requires some { NumbersRise 0 (filed_at some.now) }
+    requires others { NumbersRise 0 (filed_at others.now) }
+    ensures { IfOk result (λ found. filed_at found.items
+        ≡ specs.only_in (filed_at some.now) (filed_at others.now)) }
+{
+    let mut found = Vec::new(alloc);
+    let mut near = 0;
+    for one in some {
+        near = pass(one, others, near, &mut found)?;
+    }
+    Ok(found)
+}
+
+// One more seen. Answers where it would stand among the others: no later one stands in front of
+// that.
+fn pass<'a>(
+    one: &'a FiledPartition,
+    others: &[&FiledPartition],
+    near: usize,
+    found: &mut Vec<&'a FiledPartition>,
+) -> Result<usize, AllocError>
+    requires rise { NumbersRise 0 (filed_at others.now) }
+    requires front { LowerBefore one.now others.now near }
+    ensures found { (seen : _) → filed_at found.old.items ≡ specs.only_in seen (filed_at others.now)
+        → OnOk result (filed_at found.new.items
+        ≡ specs.only_in (seen ++ one.now ∷ []) (filed_at others.now)) }
+    ensures front { IfOk result (λ place. LowerBefore one.now others.now place) }
+{
+    let place = first_not_lower(one, others, near);
+    if !stands_at(one, others, place) {
+        found.push(one)?;
+    }
+    Ok(place)
+}
+
+// The place of the first one whose number isn't lower, from a place on; the end where there is none.
+fn first_not_lower(one: &FiledPartition, others: &[&FiledPartition], from: usize) -> usize
+    requires { LowerBefore one.now others.now from }
+    ensures front { LowerBefore one.now others.now result }
+    ensures behind { NoneLowerAt one.now others.now result }
+{
+    for place in from..others.len() {
+        if one.number() <= others[place].number() {
+            return place;
+        }
+    }
+    others.len()
+}
+
+// Whether one has its number, by the place where it would stand.
+fn stands_at(one: &FiledPartition, others: &[&FiledPartition], place: usize) -> bool
+    requires rise { NumbersRise 0 (filed_at others.now) }
+    requires front { LowerBefore one.now others.now place }
+    requires behind { NoneLowerAt one.now others.now place }
+    ensures { result ≡ has same_number (filed_at others.now) one.now }
+{
+    place < others.len() && one.number() == others[place].number()
 }

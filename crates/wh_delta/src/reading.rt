@@ -22,7 +22,7 @@ use wh_value::Row;
 /// Whether the query has no operators but Scan, Filter, Project and UnionAll, so that the rows that
 /// stay count for nothing.
 #[tactic(auto, unfolding(wh_maintenance::specs::Delta::linear))]
-pub(crate) fn linear(query: &Query) -> bool
+pub fn linear(query: &Query) -> bool
     ensures { result ≡ changes.linear (query_of query.now) }
 {
     match query {

@@ -4,5 +4,7 @@ mod SourceLemmas
 mod PartLaws
 mod WalkLaws
 mod GoingLaws
+mod MovingLaws
+mod GivenLaws
 mod HeldLaws
 pub mod StandLaws

@@ -1,5 +1,6 @@
 -- What is brought to a moment, one table after the other.
 --     source_none, source_new, source_old     the rows of a source
+--     sources_same                            of sources none of which has a version to come
 --     same_there, none_there, between_meant     versions that are there, or to come
 --     fresh_none, fresh_in                    whether it has new data
 --     evaluated_over                          what a query gives over its sources
@@ -71,6 +72,14 @@ new_or true b = refl
 new_or false true = refl
 new_or false false = refl
 
+neither : (a b : Bool) → (a || b) ≡ false → (a ≡ false) × (b ≡ false)
+neither true b e = cc
+neither false b e = (refl, e)
+
+not_there : (found : Option Edits) → is_some found ≡ false → found ≡ None
+not_there None e = refl
+not_there (Some edits) e = cc
+
 -- whether there is a version to come
 pub same_there : (stored : List StoredObject) (id : ℕ) (found : Option (Bor NewRows)) (edits : Option Edits)
     → IsRowsOf stored id (option_map (λ (r : Bor NewRows). r.now) found) edits → is_some found ≡ is_some edits
@@ -118,6 +127,18 @@ module _ (stamp moment : ℕ) (bs : List machine.Brought) (objects : List Object
   source_new id e t is there =
       ap (bag_in moment) (table_there id (Some e) (Some t) is there)
       ∙ ap (λ (rows : Rows). bag_of (values rows)) (refreshed_rows stamp moment e t)
+
+  source_same : (id : ℕ) → edits_sought id bs ≡ None → bag_at after moment id ≡ bag_at objects moment id
+  source_same id is = ap (bag_in moment) (table_there id None (table_at objects id) is refl)
+
+  -- sources none of which has a version to come
+  pub sources_same : (ids : List ℕ) → list_any (λ id. is_some (edits_sought id bs)) ids ≡ false
+      → instance_at after moment ids ≡ instance_at objects moment ids
+  sources_same [] none = refl
+  sources_same (id ∷ ids) none =
+      let apart = neither (is_some (edits_sought id bs)) (list_any (λ other. is_some (edits_sought other bs)) ids) none in
+      ap (λ (b : Bag). b ∷ instance_at after moment ids) (source_same id (not_there (edits_sought id bs) apart.0))
+      ∙ ap (λ (l : List Bag). bag_at objects moment id ∷ l) (sources_same ids apart.1)
 
   pub fresh_none : (from id : ℕ) → table_at objects id ≡ None → is_new_at after from moment id ≡ false
   fresh_none from id none = ap (λ (found : Option Table). option_map_or (has_version_between from moment) found false)

@@ -1,17 +1,20 @@
 //! What changes of its sources make of the rows of a dynamic table.
-ghost use Rattle.std.specs.Prelude.{◌≡◌, ◌++◌, ℕ, List, map, Some, IfOk, OnOk};
+ghost use Rattle.std.specs.Prelude.{◌≡◌, ◌≤◌, ◌++◌, ℕ, List, map, true, Some, IfOk, OnOk};
 ghost use Rattle.std.specs.FinMap.{values};
 ghost use Rattle.wh_fetch.specs.Device.{Counts};
 ghost use Rattle.wh_meaning.specs.Bag as bags;
 ghost use Rattle.wh_meaning.specs.Bag.{bag_of};
 ghost use Rattle.wh_meaning.specs.BagChange.{IsNet, IsChanged};
+ghost use Rattle.wh_meaning.specs.Query.{eval};
+ghost use Rattle.wh_algebra.specs.View.{query_of as plain_query_of};
 ghost use Rattle.wh_algebra.specs.Tuple.{rows_in};
 ghost use Rattle.wh_part.specs.View.{numbered_of};
 ghost use Rattle.wh_filed.specs.Fetching.{AllShownBy, AllCovered};
 ghost use Rattle.wh_state.specs.State.{last_rows};
-ghost use Rattle.wh_state.specs.Moments.{evaluated_at};
+ghost use Rattle.wh_state.specs.Moments.{instance_at, evaluated_at};
 ghost use Rattle.wh_state.specs.Stored.{table_meant};
 ghost use Rattle.wh_dynamic.specs.View.{dynamic_of};
+ghost use Rattle.wh_maintenance.specs.Delta.{linear};
 ghost use Rattle.wh_delta.specs.Found.{FindsNet};
 ghost use Rattle.wh_table.specs.Rows.{rows_only, all_rows, partitions_at};
 ghost use Rattle.wh_table.specs.Table.{table_of, filed_of};
@@ -22,14 +25,16 @@ ghost use Rattle.wh_refresh.specs.Brought.{AreBrought};
 ghost use Rattle.wh_refresh.specs.Rebased.{IsRebased};
 
 use crate::brought::Brought;
-use crate::evaluation::changed;
+use crate::evaluation::bound;
 use crate::going::going;
+use crate::moving::{some_brought, sources_moved};
 use crate::rebase::{Rebased, rebase};
 use crate::sources::{sources_held, sources_of};
 use std::alloc::{AllocError, Global};
-use wh_algebra::Tuple;
+use wh_algebra::{Query, Tuple};
 use wh_bag::{Bag, Signed, apply};
 use wh_catalog::{StoredObject, StoredTable};
+use wh_delta::{delta, is_linear, linear_delta};
 use wh_dynamic::Dynamic;
 use wh_exec::collected;
 use wh_fetch::{Fetch, FetchFault};
@@ -61,11 +66,83 @@ pub(crate) fn change_of_rows<F: Fetch>(
     ensures goes { F.stays fetch.old fetch.new }
     ensures counts { Counts (F.faults fetch.old) (F.faults fetch.new) result }
 {
-    let stood = sources_held(alloc, objects, &[], dynamic.state().moment, dynamic.reads())?;
-    let held = sources_held(alloc, objects, before, moment, dynamic.reads())?;
+    let bound = bound(alloc, objects, dynamic.query())?;
+    let query = &bound.get().query;
+    let from = dynamic.state().moment;
+    if from <= moment && is_linear(query) && !some_brought(before, dynamic.reads()) {
+        return change_by_moves(alloc, objects, query, from, moment, dynamic.reads(), fetch);
+    }
+    change_by_sources(
+        alloc,
+        objects,
+        before,
+        query,
+        from,
+        moment,
+        dynamic.reads(),
+        fetch,
+    )
+}
+
+// Of a linear query, none of whose sources is brought: from what came in them and what went.
+fn change_by_moves<F: Fetch>(
+    alloc: Global,
+    objects: &[&StoredObject],
+    query: &Query,
+    from: u64,
+    to: u64,
+    ids: &[u32],
+    fetch: &mut F,
+) -> Result<Option<Signed>, FetchFault>
+    requires covered { AllCovered (F.covers fetch.old) (filed_at_objects objects.now) }
+    requires order { from ≤ to }
+    requires linear { linear (plain_query_of query.now) ≡ true }
+    ensures change { AllShownBy (F.contents fetch.old) (filed_at_objects objects.now)
+        → IfOk result (λ found. (was : bags.Bag)
+        → eval (plain_query_of query.now) (instance_at (objects_in objects.now) from ids.now)
+        ≡ Some was → FindsNet was
+        (eval (plain_query_of query.now) (instance_at (objects_in objects.now) to ids.now)) found) }
+    ensures sound { AllShownBy (F.contents fetch.old) (filed_at_objects objects.now)
+        → F.damage fetch.new ≡ F.damage fetch.old }
+    ensures same { F.contents fetch.new ≡ F.contents fetch.old }
+    ensures goes { F.stays fetch.old fetch.new }
+    ensures counts { Counts (F.faults fetch.old) (F.faults fetch.new) result }
+{
+    let moved = sources_moved(alloc, objects, from, to, ids)?;
+    let came = sources_of(alloc, &moved.came)?;
+    let went = sources_of(alloc, &moved.went)?;
+    linear_delta(alloc, query, &came, &went, fetch)
+}
+
+// Of any other query: from what its sources held before and what they hold now.
+fn change_by_sources<F: Fetch>(
+    alloc: Global,
+    objects: &[&StoredObject],
+    before: &[Brought],
+    query: &Query,
+    from: u64,
+    to: u64,
+    ids: &[u32],
+    fetch: &mut F,
+) -> Result<Option<Signed>, FetchFault>
+    requires { AllCovered (F.covers fetch.old) (filed_at_objects objects.now) }
+    ensures change { AllShownBy (F.contents fetch.old) (filed_at_objects objects.now)
+        → IfOk result (λ found. (stamp : ℕ) (bs : List machine.Brought) (was : bags.Bag)
+        → AreBrought (stored_in objects.now) before.now bs → AreAbove 0 bs
+        → eval (plain_query_of query.now) (instance_at (objects_in objects.now) from ids.now)
+        ≡ Some was → FindsNet was (eval (plain_query_of query.now)
+        (instance_at (after_all stamp to bs (objects_in objects.now)) to ids.now)) found) }
+    ensures sound { AllShownBy (F.contents fetch.old) (filed_at_objects objects.now)
+        → F.damage fetch.new ≡ F.damage fetch.old }
+    ensures same { F.contents fetch.new ≡ F.contents fetch.old }
+    ensures goes { F.stays fetch.old fetch.new }
+    ensures counts { Counts (F.faults fetch.old) (F.faults fetch.new) result }
+{
+    let stood = sources_held(alloc, objects, &[], from, ids)?;
+    let held = sources_held(alloc, objects, before, to, ids)?;
     let old = sources_of(alloc, &stood)?;
     let new = sources_of(alloc, &held)?;
-    changed(alloc, objects, dynamic.query(), &old, &new, fetch)
+    delta(alloc, query, &old, &new, fetch)
 }
 
 /// The edits that a net change makes of a table's rows.

@@ -1,27 +1,26 @@
 //! What the query of a dynamic table gives over rows.
-ghost use Rattle.std.specs.Prelude.{◌≡◌, ◌∷◌, ◌++◌, [], map, Some, option_map, OnOk, IfOk};
+ghost use Rattle.std.specs.Prelude.{◌≡◌, ◌∷◌, ◌++◌, [], map, option_map, OnOk, IfOk};
 ghost use Rattle.std.specs.Option.{option_map_or, option_to_list};
-ghost use Rattle.wh_meaning.specs.Bag as bags;
 ghost use Rattle.wh_meaning.specs.Query.{eval};
 ghost use Rattle.wh_naming.specs.View.{named_of};
 ghost use Rattle.wh_algebra.specs.View.{query_of as plain_query_of};
+ghost use Rattle.wh_core_bind.specs.View.{query_in};
 ghost use Rattle.wh_exec.specs.Source.{filed_in, instance_in};
 ghost use Rattle.wh_fetch.specs.Device.{Counts};
 ghost use Rattle.wh_filed.specs.Fetching.{AllShownBy, AllCovered};
 ghost use Rattle.wh_state.specs.State.{at_id};
 ghost use Rattle.wh_state.specs.Bound.{named_as, names_among, query_bound};
 ghost use Rattle.wh_dynamic.specs.View.{query_of, source_of};
-ghost use Rattle.wh_delta.specs.Moved.{AreNumbered};
-ghost use Rattle.wh_delta.specs.Found.{FindsNet};
 ghost use Rattle.wh_refresh.specs.Objects.{objects_in};
 
 use crate::objects::object_at;
+use sqlite_items::Boxed;
 use std::alloc::{AllocError, Global};
 use wh_algebra::Query;
-use wh_bag::{Bag, Signed};
+use wh_bag::Bag;
 use wh_bind::bind_query;
 use wh_catalog::{StoredObject, named_as};
-use wh_delta::delta;
+use wh_core_bind::BoundQuery;
 use wh_dynamic::{DynamicQuery, NamedSource};
 use wh_exec::{Source, collected};
 use wh_fetch::{Fetch, FetchFault};
@@ -29,7 +28,6 @@ use wh_naming::Named;
 use wh_plan::answered;
 
 /// The rows of a query over its sources, or None where it is undefined.
-#[tactic(auto, unfolding(wh_bind::specs::View::query_reading))]
 pub(crate) fn evaluated<F: Fetch>(
     alloc: Global,
     objects: &[&StoredObject],
@@ -48,41 +46,22 @@ pub(crate) fn evaluated<F: Fetch>(
     ensures goes { F.stays fetch.old fetch.new }
     ensures counts { Counts (F.faults fetch.old) (F.faults fetch.new) result }
 {
-    let names = names_among(alloc, objects, &query.sources)?;
-    let bound = bind_query(alloc, &names, 0, query.tree.get())?;
+    let bound = bound(alloc, objects, query)?;
     evaluated_over(alloc, &bound.get().query, sources, fetch)
 }
 
-/// The net change of the rows of a query as its sources changed, where it had rows before; None
-/// where it is undefined now.
+/// The query bound over the objects that it names.
 #[tactic(auto, unfolding(wh_bind::specs::View::query_reading))]
-pub(crate) fn changed<F: Fetch>(
+pub(crate) fn bound(
     alloc: Global,
     objects: &[&StoredObject],
     query: &DynamicQuery,
-    old: &[Source<'_>],
-    new: &[Source<'_>],
-    fetch: &mut F,
-) -> Result<Option<Signed>, FetchFault>
-    requires old { AllCovered (F.covers fetch.old) (filed_in old.now) }
-    requires new { AllCovered (F.covers fetch.old) (filed_in new.now) }
-    ensures change { AllShownBy (F.contents fetch.old) (filed_in old.now)
-        → AllShownBy (F.contents fetch.old) (filed_in new.now)
-        → IfOk result (λ found. (was : bags.Bag) → AreNumbered old.now new.now
-        → eval (query_bound (objects_in objects.now) (query_of query.now)).query
-        (instance_in old.now) ≡ Some was
-        → FindsNet was (eval (query_bound (objects_in objects.now) (query_of query.now)).query
-        (instance_in new.now)) found) }
-    ensures sound { AllShownBy (F.contents fetch.old) (filed_in old.now)
-        → AllShownBy (F.contents fetch.old) (filed_in new.now)
-        → F.damage fetch.new ≡ F.damage fetch.old }
-    ensures same { F.contents fetch.new ≡ F.contents fetch.old }
-    ensures goes { F.stays fetch.old fetch.new }
-    ensures counts { Counts (F.faults fetch.old) (F.faults fetch.new) result }
+) -> Result<Boxed<BoundQuery>, AllocError>
+    ensures { IfOk result (λ b. query_in b
+        ≡ query_bound (objects_in objects.now) (query_of query.now)) }
 {
     let names = names_among(alloc, objects, &query.sources)?;
-    let bound = bind_query(alloc, &names, 0, query.tree.get())?;
-    delta(alloc, &bound.get().query, old, new, fetch)
+    bind_query(alloc, &names, 0, query.tree.get())
 }
 
 fn evaluated_over<F: Fetch>(

@@ -31,8 +31,11 @@ pub(crate) fn going<'a>(
     ensures among { IfOk result (λ found.
         AllByRecursion (Contains (filed_of table.now)) (filed_at found.items)) }
 {
-    let standing = table.standing(alloc)?;
     let mut going = Vec::new(alloc);
+    if change.minus.is_empty() {
+        return Ok(going);
+    }
+    let standing = table.standing(alloc)?;
     for filed in &standing {
         add_going(&mut going, change, *filed)?;
     }

@@ -8,6 +8,7 @@ mod changes;
 mod evaluation;
 mod going;
 mod limits;
+mod moving;
 mod objects;
 mod rebase;
 mod refreshing;

@@ -3,9 +3,10 @@
 --     told_held       so does what is told of them
 --     front_held      the first ones are among them
 --     filtered_held   those that pass a test are
+--     picked_held, behind_held  so are those of the first ones that pass it, and what comes behind others
 --     left_held, right_held     what lies in front of others is among all, and so is what is among those behind
-use Rattle.std.proofs.Common.{ℕ, zero, suc, Bool, true, false, cond, List, [], ◌∷◌, ◌++◌, take, filter, Contains}
-use Rattle.std.proofs.Common.{refl, subst, arith}
+use Rattle.std.proofs.Common.{◌≡◌, ℕ, zero, suc, Bool, true, false, cond, List, [], ◌∷◌, ◌++◌, take, filter, Contains}
+use Rattle.std.proofs.Common.{refl, sym, subst, arith}
 use Rattle.std.specs.List.{AllByRecursion}
 use Rattle.wh_filed.specs.Filed.{Filed, IsShown, AreAmong}
 use Rattle.wh_filed.proofs.FilingLaws.{each_at}
@@ -45,6 +46,25 @@ filtered_held test (k ∷ kept) =
         → AllByRecursion (Contains (filed_in (k ∷ kept))) (filed_in (cond b (k ∷ filter test kept) (filter test kept)))
     by_test true rest = ((0, omega arith, refl), rest)
     by_test false rest = rest
+
+pub picked_held : (test : Lasting → Bool) (n : ℕ) (kept : List Lasting) (found : List Filed)
+    → found ≡ filed_in (filter test (take n kept))
+    → AllByRecursion (Contains (filed_in kept)) found
+picked_held test n kept found is =
+    subst (AllByRecursion (Contains (filed_in kept))) (sym is)
+    (each_held (Contains (filed_in kept)) (filed_in (filter test (take n kept))) (filed_in (take n kept))
+    (filtered_held test (take n kept)) (front_held n kept))
+
+each_behind : (P : Filed → Type 0) (front found : List Filed) → AllByRecursion P (front ++ found)
+    → AllByRecursion P found
+each_behind P [] found each = each
+each_behind P (f ∷ front) found each = each_behind P front found each.1
+
+pub behind_held : (test : Lasting → Bool) (n : ℕ) (kept : List Lasting) (front found : List Filed)
+    → front ++ found ≡ filed_in (filter test (take n kept))
+    → AllByRecursion (Contains (filed_in kept)) found
+behind_held test n kept front found is =
+    each_behind (Contains (filed_in kept)) front found (picked_held test n kept (front ++ found) is)
 
 pub left_held : (xs ys : List Filed) → AllByRecursion (Contains (xs ++ ys)) xs
 left_held [] ys = tt

@@ -2,16 +2,14 @@
 --     length_filed, length_partitions     as many as are kept
 --     standing_append                     what stands of two lists, one behind the other
 --     joined                              lists joined as they stand in the file are joined with their rows
---     front_among, filtered_among         the first ones, and those that pass a test, are among them
---     picked_among, behind_among          so are those of the first ones that pass it, and what comes behind others
---     among_more                          so are others with one more that is kept
+--     among_more                          some that are among them are so with one more that is kept
 --     holds                               what is kept has the one at a place
-use Rattle.std.proofs.Common.{◌≡◌, ℕ, zero, suc, ◌<◌, Bool, true, false, cond, List, [], ◌∷◌, ◌++◌, length, filter}
-use Rattle.std.proofs.Common.{take, get_or, Contains, Option, sym, subst, ap, ◌∙◌, arith}
+use Rattle.std.proofs.Common.{◌≡◌, ℕ, zero, suc, ◌<◌, List, [], ◌∷◌, ◌++◌, length, get_or, Contains, Option}
+use Rattle.std.proofs.Common.{sym, subst, ap, ◌∙◌, arith}
 use Rattle.std.proofs.lemmas.List.{length-map, map-append, get_or-map}
 use Rattle.std.proofs.lemmas.List.Elements.{filter-append}
 use Rattle.wh_filed.specs.Filed.{Filed, partitions_filed, IsShown, AllShown, AreAmong}
-use Rattle.wh_filed.proofs.ShownLaws.{shown_append, shown_behind}
+use Rattle.wh_filed.proofs.ShownLaws.{shown_append}
 use Rattle.wh_version.specs.declared.lasting.Lasting.{Lasting}
 use Rattle.wh_version.specs.Lasting.{filed_in, partitions_in, stands_at, standing_at}
 
@@ -35,34 +33,7 @@ pub joined : (xs ys zs : List Filed) → xs ++ ys ≡ zs
     → partitions_filed xs ++ partitions_filed ys ≡ partitions_filed zs
 joined xs ys zs is = sym (map-append (λ f. f.partition) xs ys) ∙ ap partitions_filed is
 
--- ---- those among them
-
-front_among : (n : ℕ) (kept : List Lasting) → AreAmong (filed_in (take n kept)) (filed_in kept)
-front_among zero kept told shown = tt
-front_among (suc n) [] told shown = tt
-front_among (suc n) (k ∷ kept) told shown = (shown.0, front_among n kept told shown.1)
-
-filtered_among : (test : Lasting → Bool) (kept : List Lasting)
-    → AreAmong (filed_in (filter test kept)) (filed_in kept)
-filtered_among test [] told shown = tt
-filtered_among test (k ∷ kept) told shown = by_test (test k) (filtered_among test kept told shown.1)
-  where
-    by_test : (b : Bool) → AllShown told (filed_in (filter test kept))
-        → AllShown told (filed_in (cond b (k ∷ filter test kept) (filter test kept)))
-    by_test true rest = (shown.0, rest)
-    by_test false rest = rest
-
-pub picked_among : (test : Lasting → Bool) (n : ℕ) (kept : List Lasting) (found : List Filed)
-    → found ≡ filed_in (filter test (take n kept))
-    → AreAmong found (filed_in kept)
-picked_among test n kept found is told shown =
-    subst (AllShown told) (sym is) (filtered_among test (take n kept) told (front_among n kept told shown))
-
-pub behind_among : (test : Lasting → Bool) (n : ℕ) (kept : List Lasting) (front found : List Filed)
-    → front ++ found ≡ filed_in (filter test (take n kept))
-    → AreAmong found (filed_in kept)
-behind_among test n kept front found is told shown =
-    shown_behind told front found (picked_among test n kept (front ++ found) is told shown)
+-- ---- one of them
 
 one_shown : (told : Option (List ℕ)) (kept : List Lasting) (i : ℕ) (k : Lasting) → i < length kept
     → k ≡ get_or kept i k → AllShown told (filed_in kept) → IsShown told k.filed

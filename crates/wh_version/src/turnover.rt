@@ -24,10 +24,11 @@ pub(crate) struct Reach {
 }
 
 impl History {
-    ghost use Rattle.std.specs.Prelude.{◌≡◌, ◌≤◌, [], IfOk};
+    ghost use Rattle.std.specs.Prelude.{◌≡◌, ◌≤◌, [], Contains, IfOk};
+    ghost use Rattle.std.specs.List.{AllByRecursion};
     ghost use Rattle.wh_state.specs.State.{content_in};
     ghost use Rattle.wh_version.specs.declared.times.Time.TheVariants.{Data};
-    ghost use Rattle.wh_filed.specs.Filed.{filed_at, partitions_at, AreAmong};
+    ghost use Rattle.wh_filed.specs.Filed.{filed_at, partitions_at};
     ghost use Rattle.wh_version.specs.History.{versions_of, filed_of, marks_of};
     ghost use Rattle.wh_version.specs.Times.{data_at, is_up_to, last_place};
     ghost use Rattle.wh_version.specs.Turnover.{IsTurnover, reach_at};
@@ -41,9 +42,9 @@ impl History {
             (content_in [] (data_at from (versions_of self.now)))
             (content_in [] (data_at to (versions_of self.now)))) }
         ensures went { IfOk result (λ found.
-            AreAmong (filed_at found.went.items) (filed_of self.now)) }
+            AllByRecursion (Contains (filed_of self.now)) (filed_at found.went.items)) }
         ensures came { IfOk result (λ found.
-            AreAmong (filed_at found.came.items) (filed_of self.now)) }
+            AllByRecursion (Contains (filed_of self.now)) (filed_at found.came.items)) }
     {
         let old = self.reach(from);
         let new = self.reach(to);

@@ -1,6 +1,7 @@
 use Rattle.std.proofs.Common.{◌∙◌, ap, refl}
 use Rattle.wh_filed.specs.Filed.{partitions_at, filed_at, AllShown}
 use Rattle.wh_fetch.specs.DiskFetch.{told_of, goes_on}
+use Rattle.wh_version.proofs.Among.{told_held}
 use Rattle.wh_table.proofs.MomentRows.{rows_meant}
 use Rattle.wh_table.specs.Table.{table_of, filed_of}
 use Rattle.wh_change.proofs.LoadedLaws.{shown_then, turned_so}
@@ -14,14 +15,14 @@ module _ (g : Over) (c : After-load g) where
       → AllShown (told_of g.D.Disk c.args.fetch.now) (filed_at c.deref.result.now)
   went_shown shown =
       shown_then _ (told_of g.D.Disk c.args.fetch.now) (filed_of c.args.table.now) _ _
-      c.in_ok-turnover.ensures.went c.deref.ensures.value refl shown
+      (told_held _ _ c.in_ok-turnover.ensures.went) c.deref.ensures.value refl shown
 
 module _ (g : Over) (c : After-load-2 g) where
   abbrev came_shown : AllShown (told_of g.D.Disk c.args.fetch.now) (filed_of c.args.table.now)
       → AllShown (told_of g.D.Disk c.load.new.fetch) (filed_at c.deref-2.result.now)
   came_shown shown =
       shown_then _ _ (filed_of c.args.table.now) _ _
-      c.in_ok-turnover.ensures.came c.deref-2.ensures.value c.in_ok-went.ensures.same shown
+      (told_held _ _ c.in_ok-turnover.ensures.came) c.deref-2.ensures.value c.in_ok-went.ensures.same shown
 
 pub returns-in_err-went-clause-sound : goal.returns-in_err-went-clause-sound
 returns-in_err-went-clause-sound g c shown =

@@ -1,15 +1,48 @@
-use Rattle.std.proofs.Common.{◌≡◌, ◌∙◌, List, Contains, take, sym, subst}
+use Rattle.std.proofs.Common.{◌≡◌, ◌∙◌, ℕ, false, List, [], ◌∷◌, length, filter, Contains, take, refl, sym, ap, subst}
+use Rattle.std.specs.Ordering.{nat_cmp}
+use Rattle.std.specs.FinMap.{empty, entries, len-entries, len-empty}
 use Rattle.std.proofs.lemmas.List.{take_all}
 use Rattle.std.specs.List.{AllByRecursion}
 use denote.Ref.{Bor}
+use Rattle.wh_value.specs.Value.{Row}
 use Rattle.wh_frame.specs.Partition.{Partition}
+use Rattle.wh_meaning.specs.Bag.{Bag, no_rows, count}
+use Rattle.wh_meaning.proofs.BagLaws.{count-no_rows}
 use Rattle.wh_filed.specs.Filed.{Filed, filed_at, partitions_at}
-use Rattle.wh_state.specs.State.{last_rows}
+use Rattle.wh_state.specs.State.{Rows, last_rows}
 use Rattle.wh_state.specs.Stored.{table_meant}
 use Rattle.wh_table.specs.Table.{table_of, filed_of}
 use Rattle.wh_refresh.specs.Going.{AreGoing}
+use Rattle.wh_refresh.specs.Rebased.{HoldsGoing}
 use Rattle.wh_refresh.proofs.HeldLaws.{going_held, taken_more, held_at}
 use Rattle.wh_refresh.proofs.going.going.Goals as goal
+
+passed_none : (es : List (ℕ × Row)) → [] ≡ filter (λ _. false) es
+passed_none [] = refl
+passed_none (e ∷ es) = passed_none es
+
+no_entries : entries (empty {K = ℕ} {X = Row} {R = nat_cmp}) ≡ []
+no_entries = none (entries empty) (sym (len-entries empty) ∙ len-empty nat_cmp Row)
+  where
+    none : (es : List (ℕ × Row)) → length es ≡ 0 → es ≡ []
+    none [] is = refl
+    none (e ∷ es) is = cc
+
+-- where no row goes
+none_going : (old : Rows) (minus : Bag) → minus ≡ no_rows → HoldsGoing [] old minus
+none_going old minus none = record {
+  rows = empty;
+  holds = record { apart = tt; rows = refl };
+  passes = λ _. false;
+  are = no_entries ∙ passed_none (entries old);
+  stays = λ e is. ap (λ (b : Bag). count b e.1) none ∙ count-no_rows e.1;
+}
+
+pub returns-then-is_empty-clause-going : goal.returns-then-is_empty-clause-going
+returns-then-is_empty-clause-going c =
+    let old = last_rows (table_meant (table_of c.args.table.now)) in
+    subst (λ (fs : List (Bor Filed)). HoldsGoing (partitions_at fs) old c.args.change.now.minus)
+    (sym c.before.before.new-going.ensures.items) (none_going old c.args.change.now.minus (c.if-is_empty.ensures.0 refl))
 
 pub loop-filed-preserved : goal.loop-filed-preserved
 loop-filed-preserved c =

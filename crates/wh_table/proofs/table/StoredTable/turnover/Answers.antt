@@ -18,3 +18,7 @@ returns-clause-turned c =
     (content_in [] (data_at c.args.from vs)) (content_in [] (data_at c.args.to vs)) c.in_ok-turnover.ensures.turnover
     (found_rising c.args.from vs t.rising) (found_apart c.args.from vs t.apart)
     (found_rising c.args.to vs t.rising) (found_apart c.args.to vs t.apart)
+
+pub returns-clause-parts : goal.returns-clause-parts
+unfolding kept_table
+returns-clause-parts c = c.in_ok-turnover.ensures.turnover

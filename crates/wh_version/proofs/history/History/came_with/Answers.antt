@@ -6,8 +6,9 @@ use Rattle.wh_filed.specs.Filed.{filed_at, partitions_at, AreAmong}
 use Rattle.wh_version.specs.History.{marked_of, marks_of}
 use Rattle.wh_version.specs.declared.lasting.Lasting.{Lasting}
 use Rattle.wh_version.specs.Lasting.{filed_in, stands_at, standing_filed, standing_at}
+use Rattle.wh_version.proofs.Among.{told_held, behind_held}
 use Rattle.wh_version.proofs.ArrivalLaws.{before_grows, arrived}
-use Rattle.wh_version.proofs.Kept.{joined, behind_among}
+use Rattle.wh_version.proofs.Kept.{joined}
 use Rattle.wh_version.proofs.LastUpTo.{mark_within}
 use Rattle.wh_version.proofs.history.History.came_with.Goals as goal
 
@@ -44,5 +45,5 @@ returns-clause-among c =
     let came = filed_at c.in_ok-came.came.items in
     let kept = c.deref.result.now in
     subst (λ (ks : List Lasting). AreAmong came (filed_in ks)) c.deref.ensures.value
-    (behind_among (stands_at place) c.mark-mark.result.partitions kept
-    (standing_filed place (take c.partitions_before.result kept)) came c.in_ok-came.ensures)
+    (told_held came (filed_in kept) (behind_held (stands_at place) c.mark-mark.result.partitions kept
+    (standing_filed place (take c.partitions_before.result kept)) came c.in_ok-came.ensures))

@@ -1,12 +1,14 @@
-use Rattle.std.proofs.Common.{◌≡◌, List, ◌++◌, ◌∙◌, ap, length, take, subst, arith}
+use Rattle.std.proofs.Common.{◌≡◌, List, ◌++◌, ◌∙◌, ap, length, take, Contains, subst, arith}
 use Rattle.std.proofs.lemmas.List.{length-take}
+use Rattle.std.specs.List.{AllByRecursion}
 use Rattle.wh_version.specs.declared.lasting.Lasting.{Lasting}
 use Rattle.std.specs.Prelude.{nat_le}
 use Rattle.wh_version.specs.Lasting.{filed_in, stands_at, standing_filed, standing_at, is_gone_between, gone_between}
 use Rattle.wh_version.specs.Lasting.{version_by, versions_by}
-use Rattle.wh_filed.specs.Filed.{filed_at, partitions_at, partitions_filed, AreAmong}
+use Rattle.wh_filed.specs.Filed.{filed_at, partitions_at, partitions_filed}
 use Rattle.wh_version.specs.History.{versions_of}
-use Rattle.wh_version.proofs.Kept.{joined, picked_among, behind_among}
+use Rattle.wh_version.proofs.Among.{picked_held, behind_held}
+use Rattle.wh_version.proofs.Kept.{joined}
 use Rattle.wh_version.proofs.Starts.{first_empty, found_behind}
 use Rattle.wh_version.proofs.TurnoverLaws.{reach_grows, reach_stands, turned_over}
 use Rattle.wh_version.proofs.history.History.turnover.Goals as goal
@@ -63,8 +65,8 @@ pub returns-clause-went : goal.returns-clause-went
 returns-clause-went c =
     let old = c.reach-old.result in
     let went = filed_at c.in_ok-went.went.items in
-    subst (λ (ks : List Lasting). AreAmong went (filed_in ks)) c.deref.ensures.value
-    (picked_among (is_gone_between old.place c.reach-new.result.place) old.partitions c.deref.result.now went
+    subst (λ (ks : List Lasting). AllByRecursion (Contains (filed_in ks)) went) c.deref.ensures.value
+    (picked_held (is_gone_between old.place c.reach-new.result.place) old.partitions c.deref.result.now went
     c.in_ok-went.ensures)
 
 pub returns-clause-came : goal.returns-clause-came
@@ -72,6 +74,6 @@ returns-clause-came c =
     let new = c.reach-new.result in
     let came = filed_at c.in_ok-came.came.items in
     let kept = c.deref-2.result.now in
-    subst (λ (ks : List Lasting). AreAmong came (filed_in ks)) c.deref-2.ensures.value
-    (behind_among (stands_at new.place) new.partitions kept
+    subst (λ (ks : List Lasting). AllByRecursion (Contains (filed_in ks)) came) c.deref-2.ensures.value
+    (behind_held (stands_at new.place) new.partitions kept
     (standing_filed new.place (take c.reach-old.result.partitions kept)) came c.in_ok-came.ensures)
