@@ -3,6 +3,7 @@
 --     among_front, among_behind            the first and the last ones of a list
 --     among_both, among_less, among_more   with others, without those behind, with those that a change adds
 --     object_among, table_among            those of one object, and of its table
+--     table_under                          those of the table of an id
 --     set_among                            an object in another's place that has more
 --     filed_with                           with an object that has none
 --     steady_filed                         a step that changed none of them
@@ -33,6 +34,7 @@ use Rattle.wh_catalog.specs.declared.undo.Step.TheVariants.{MadeObject, DroppedO
 use Rattle.wh_catalog.specs.declared.undo.Step.TheVariants.{SetTask, SetRun, SetDynamic}
 use Rattle.wh_catalog.specs.Undoable.{KeptKind, KeptObject}
 use Rattle.wh_catalog.specs.Object.{kept_object, filed_in_kind, filed_in_kept, filed_of_objects, IsPlaceOf}
+use Rattle.wh_catalog.specs.Catalog.{filed_in_object}
 use Rattle.wh_catalog.specs.Names.{is_last}
 use Rattle.wh_catalog.specs.Back.{object_put_back, on_task_kept, holding, on_dynamic_kept, alive}
 use Rattle.wh_catalog.specs.Undo.{step_undone, IsSteady}
@@ -114,6 +116,12 @@ pub table_among : (found : Option (Bor StoredTable)) (o : StoredObject) (all : L
 table_among None o all same among = tt
 table_among (Some t) o all same among =
     λ told shown. subst (AllShown told) (sym same) (shown_front told (filed_one o) [] (among told shown))
+
+pub table_under : (found : Option (Bor StoredTable)) (o : KeptObject) (under : Option KeptObject) → Some o ≡ under
+    → IfSome found (λ t. tables.filed_of t.now ≡ filed_in_kind o.kind)
+    → IfSome found (λ t. tables.filed_of t.now ≡ filed_in_object under)
+table_under found o under is same =
+    subst (λ (u : Option KeptObject). IfSome found (λ t. tables.filed_of t.now ≡ filed_in_object u)) is same
 
 pub filed_with : (xs : List StoredObject) (o : StoredObject) → filed_one o ≡ []
     → filed_of_objects (xs ++ o ∷ []) ≡ filed_of_objects xs

@@ -47,7 +47,7 @@ impl Catalog {
     ghost use Rattle.wh_catalog.specs.Names.{names_of, is_last, last_id};
     ghost use Rattle.wh_state.specs.Objects.{table_at, stream_at, task_at, dynamic_at};
     ghost use Rattle.wh_state.specs.Objects.{live_tasks};
-    ghost use Rattle.wh_catalog.specs.Catalog.{stored_of, state_of, filed_of};
+    ghost use Rattle.wh_catalog.specs.Catalog.{kept_of, stored_of, state_of, filed_of, filed_under};
     ghost use Rattle.wh_catalog.specs.Stream.{stream_of};
     ghost use Rattle.wh_state.specs.State.{at_id};
 
@@ -145,6 +145,7 @@ impl Catalog {
     pub fn object(&self, id: u32) -> Option<&StoredObject>
         ensures object { option_map (λ o. object_in (kept_object o.now)) result
             ≡ at_id (stored_of self.now).objects id }
+        ensures kept { option_map (λ o. kept_object o.now) result ≡ at_id (kept_of self.now) id }
         ensures among { IfSome result (λ o.
             AreAmong (filed_of_objects (o.now ∷ [])) (filed_of self.now)) }
     {
@@ -157,6 +158,7 @@ impl Catalog {
     pub fn table(&self, id: u32) -> Option<&StoredTable>
         ensures table { option_map (λ t. table_of t.now) result
             ≡ table_at (stored_of self.now).objects id }
+        ensures filed { IfSome result (λ t. tables.filed_of t.now ≡ filed_under self.now id) }
         ensures among { IfSome result (λ t. AreAmong (tables.filed_of t.now) (filed_of self.now)) }
     {
         let object = self.object(id)?;

@@ -2,6 +2,8 @@ ghost use Rattle.std.specs.Prelude.{◌≡◌, ◌≤◌, IfOk};
 ghost use Rattle.wh_fetch.specs.Device.{Counts};
 ghost use Rattle.wh_fetch.specs.DiskFetch.{told_of, faults_of, damage_of, IsRight, GoesOn};
 ghost use Rattle.wh_filed.specs.Filed.{AllShown};
+ghost use Rattle.wh_filed.specs.Asking.{AsksFor};
+ghost use Rattle.wh_version.specs.Moved.{IsMoved};
 ghost use Rattle.wh_state.specs.State.{rows_at};
 ghost use Rattle.wh_state.specs.Stored.{table_meant};
 ghost use Rattle.wh_table.specs.Table.{table_of, filed_of};
@@ -38,6 +40,8 @@ pub fn turned_over<D: Disk>(
         (rows_at (table_meant (table_of table.now)) to)) }
     ensures sound { AllShown (told_of D.Disk fetch.old) (filed_of table.now)
         → damage_of fetch.new ≡ damage_of fetch.old }
+    ensures asks { AsksFor (IsMoved from to (table_of table.now).versions (filed_of table.now))
+        fetch.old.asked.items fetch.new.asked.items }
     ensures same { told_of D.Disk fetch.new ≡ told_of D.Disk fetch.old }
     ensures goes { GoesOn D.Disk fetch.old fetch.new }
     ensures counts { Counts (faults_of D.Disk fetch.old) (faults_of D.Disk fetch.new) result }

@@ -5,6 +5,7 @@ pub mod ReadyLemmas
 mod TableLemmas
 mod DefineLemmas
 mod StreamLemmas
+pub mod AskLemmas
 mod TaskLemmas
 mod AlterLemmas
 mod DynamicLemmas

@@ -4,11 +4,9 @@
 --     is_undefined       it isn't, but a number is out of range
 use Rattle.std.proofs.Common.{◌≡◌, ℕ, List, [], ◌∷◌, Option, Some, None, option_map}
 use Rattle.std.proofs.Common.{refl, ap, sym, ◌∙◌}
-use Rattle.std.specs.Prelude.{Vec}
-use Rattle.std.specs.declared.alloc.Global.{Global}
 use Rattle.wh_value.specs.Value.{Row}
 use Rattle.wh_meaning.specs.Bag.{Bag}
-use Rattle.wh_meaning.specs.Query.{Instance, eval}
+use Rattle.wh_meaning.specs.Query.{eval}
 use Rattle.wh_meaning.specs.Listing.{listed}
 use Rattle.wh_algebra.specs.View.{query_of}
 use Rattle.wh_listing.specs.View.{keys_of}

@@ -7,3 +7,4 @@ pub mod Dynamics
 pub mod Definitions
 pub mod Sources
 pub mod Changes
+pub mod Asked

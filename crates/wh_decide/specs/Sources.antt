@@ -1,10 +1,11 @@
 -- The sources that a statement reads.
 --     bag_seen, bags_seen     the rows that they show, of one source and of each
 --     filed_by, filed_seen    the partitions of the file among which these stand
+--     is_stream               whether it is one whose rows a stream shows
 --     IsTarget                what a change reads of its target
 --     lower                   the lesser of an id and one that may be there
 --     sources_refusal         what a statement is refused for that it reads
-use Rattle.std.specs.Prelude.{◌≡◌, ℕ, Bool, true, min, List, [], ◌∷◌, map, Option, Some, None}
+use Rattle.std.specs.Prelude.{◌≡◌, ℕ, Bool, true, false, min, List, [], ◌∷◌, map, Option, Some, None}
 use Rattle.std.specs.List.{flat_map}
 use Rattle.wh_value.specs.declared.limit.Limit.TheVariants as limits
 use Rattle.wh_meaning.specs.Bag.{Bag, bag_of}
@@ -37,6 +38,10 @@ filed_by (sources.Stream rows) = []
 
 abbrev pub filed_seen : List SourceSeen → List Filed
 filed_seen seen = flat_map filed_by seen
+
+abbrev pub is_stream : SourceSeen → Bool
+is_stream (sources.Table table) = false
+is_stream (sources.Stream rows) = true
 
 -- an INSERT reads none of it, and another change its rows but for those that it leaves as they are
 abbrev pub IsTarget : Modification → Table → Option TableSeen → Type 0

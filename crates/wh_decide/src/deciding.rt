@@ -5,10 +5,12 @@ ghost use Rattle.wh_reply.specs.View.{refusal_view};
 ghost use Rattle.wh_grammar.specs.Spelled.{Asked, Spells};
 ghost use Rattle.wh_machine.specs.Step.{commanded, is_session};
 ghost use Rattle.wh_machine.specs.Statements.{carried_out};
+ghost use Rattle.wh_machine.specs.Reading.{start_in};
 ghost use Rattle.wh_stmt_parse.specs.Request.{request_of};
 ghost use Rattle.wh_ddl_bind.specs.View.{bound_of};
 ghost use Rattle.wh_decide.specs.Definitions.{earlier_refusal, reads_rows, IsMeantRead};
 ghost use Rattle.wh_decide.specs.Sight.{machine_in, IsShown, IsSound, Comes, IsReady};
+ghost use Rattle.wh_decide.specs.Asked.{AsksAsBound, AsksAsRequested};
 
 use crate::altering::{drop_task, execute_task, resume_task, suspend_task};
 use crate::changes::change_rows;
@@ -46,6 +48,8 @@ pub fn decide_command<D: Disk>(
         → IfOk result (λ decision. Comes sight.now decision
         (commanded (machine_in sight.now) sight.now.session (request_of text.now))) }
     ensures ready { IfOk result (λ decision. IsReady sight.now decision) }
+    ensures asks { AsksAsRequested sight.now.catalog.now (machine_in sight.now) sight.now.session
+        (request_of text.now) fetch.old.asked.items fetch.new.asked.items }
     ensures sound { IsShown (told_of D.Disk fetch.old) sight.now
         → damage_of fetch.new ≡ damage_of fetch.old }
     ensures same { told_of D.Disk fetch.new ≡ told_of D.Disk fetch.old }
@@ -80,6 +84,8 @@ fn decide_tree<D: Disk>(
         (commanded (machine_in sight.now) sight.now.session (Asked statement.now))) }
     ensures ready { (text : List ℕ) → Spells text statement.now
         → IfOk result (λ decision. IsReady sight.now decision) }
+    ensures asks { AsksAsRequested sight.now.catalog.now (machine_in sight.now) sight.now.session
+        (Asked statement.now) fetch.old.asked.items fetch.new.asked.items }
     ensures sound { IsShown (told_of D.Disk fetch.old) sight.now
         → damage_of fetch.new ≡ damage_of fetch.old }
     ensures same { told_of D.Disk fetch.new ≡ told_of D.Disk fetch.old }
@@ -142,7 +148,7 @@ fn earlier_refusal(sight: &Sight<'_>, statement: &Statement) -> Option<Refusal>
 }
 
 // What a statement comes to that nothing is found wrong with.
-#[tactic(auto, unfolding(wh_machine::specs::Statements::carried_out))]
+#[tactic(auto, using(crate::proofs::AskLemmas::bound_unasked), unfolding(wh_machine::specs::Statements::carried_out))]
 fn decide_bound<D: Disk>(
     alloc: Global,
     sight: &Sight<'_>,
@@ -155,6 +161,9 @@ fn decide_bound<D: Disk>(
         (carried_out (machine_in sight.now) sight.now.session None (bound_of statement))) }
     ensures ready { IsMeantRead sight.now (bound_of statement)
         → IfOk result (λ decision. IsReady sight.now decision) }
+    ensures asks { AsksAsBound sight.now.catalog.now
+        (start_in (machine_in sight.now) sight.now.session) (bound_of statement)
+        fetch.old.asked.items fetch.new.asked.items }
     ensures sound { IsShown (told_of D.Disk fetch.old) sight.now
         → damage_of fetch.new ≡ damage_of fetch.old }
     ensures same { told_of D.Disk fetch.new ≡ told_of D.Disk fetch.old }

@@ -192,8 +192,8 @@ fn is_same_state(old: DynamicState, new: DynamicState) -> bool
 
 // ---- refreshes
 
-// What ALTER DYNAMIC TABLE .. REFRESH comes to, of a dynamic table: it is brought to the statement's
-// stamp.
+// What ALTER DYNAMIC TABLE .. REFRESH comes to, of a dynamic table: it is brought to the stamp of
+// the statement.
 #[tactic(auto, using(wh_fetch::specs::DiskFetch::goes_on, wh_fetch::specs::DiskFetch::goes_none))]
 pub(crate) fn refresh_dynamic<D: Disk>(
     alloc: Global,

@@ -1,23 +1,26 @@
-ghost use Rattle.std.specs.Prelude.{◌≡◌, option_map, IfOk};
+ghost use Rattle.std.specs.Prelude.{◌≡◌, [], option_map, IfOk};
 ghost use Rattle.wh_fetch.specs.Device.{Counts};
 ghost use Rattle.wh_fetch.specs.DiskFetch.{told_of, faults_of, damage_of, IsRight, GoesOn};
 ghost use Rattle.wh_meaning.specs.Query.{eval};
 ghost use Rattle.wh_meaning.specs.Listing.{listed};
 ghost use Rattle.wh_algebra.specs.View.{query_of};
 ghost use Rattle.wh_listing.specs.View.{keys_of};
-ghost use Rattle.wh_machine.specs.Reading.{instance_read};
+ghost use Rattle.wh_exec.specs.Source.{filed_in, instance_in};
+ghost use Rattle.wh_machine.specs.Reading.{instance_read, start_in};
 ghost use Rattle.wh_machine.specs.Statements.{selects};
 ghost use Rattle.wh_ddl_bind.specs.View.{select_of};
 ghost use Rattle.wh_plan.specs.Rows.{rows_found};
 ghost use Rattle.wh_decide.specs.Sight.{machine_in, IsShown, Comes, IsReady};
+ghost use Rattle.wh_decide.specs.Asked.{AsksForMoved};
 
 use crate::decision::{Decision, Settlement};
 use crate::reading::sources_refusal;
 use crate::sight::Sight;
-use crate::sources::{sources_of, sources_seen};
+use crate::sources::{are_streams, sources_of, sources_seen};
 use std::alloc::{AllocError, Global};
 use wh_bind::BoundSelect;
-use wh_fetch::{DiskFetch, FetchFault};
+use wh_exec::Source;
+use wh_fetch::{DiskFetch, FetchFault, MemFetch};
 use wh_plan::answered_in_order;
 use wh_reply::{Refusal, Reply};
 use wh_value::{Row, Text};
@@ -37,6 +40,9 @@ pub(crate) fn select<D: Disk>(
         → IfOk result (λ decision. Comes sight.now decision
         (selects (machine_in sight.now) sight.now.session (select_of bound.now))) }
     ensures ready { IfOk result (λ decision. IsReady sight.now decision) }
+    ensures asks { AsksForMoved sight.now.catalog.now
+        (start_in (machine_in sight.now) sight.now.session) bound.now.sources.items
+        fetch.old.asked.items fetch.new.asked.items }
     ensures sound { IsShown (told_of D.Disk fetch.old) sight.now
         → damage_of fetch.new ≡ damage_of fetch.old }
     ensures same { told_of D.Disk fetch.new ≡ told_of D.Disk fetch.old }
@@ -69,6 +75,9 @@ fn listed_rows<D: Disk>(
         → IfOk result (λ found. rows_found found
         ≡ option_map (listed (keys_of bound.now.keys.items)) (eval (query_of bound.now.query)
         (instance_read (machine_in sight.now) sight.now.session bound.now.sources.items))) }
+    ensures asks { AsksForMoved sight.now.catalog.now
+        (start_in (machine_in sight.now) sight.now.session) bound.now.sources.items
+        fetch.old.asked.items fetch.new.asked.items }
     ensures sound { IsShown (told_of D.Disk fetch.old) sight.now
         → damage_of fetch.new ≡ damage_of fetch.old }
     ensures same { told_of D.Disk fetch.new ≡ told_of D.Disk fetch.old }
@@ -77,7 +86,30 @@ fn listed_rows<D: Disk>(
 {
     let seen = sources_seen(alloc, sight, &bound.sources, fetch)?;
     let sources = sources_of(alloc, &seen)?;
+    if are_streams(&seen) {
+        let rows = listed_at_hand(alloc, bound, &sources)?;
+        return Ok(rows);
+    }
     answered_in_order(alloc, &bound.query, &bound.keys, &sources, fetch)
+}
+
+// Over rows at hand alone, for which no partition is asked.
+fn listed_at_hand(
+    alloc: Global,
+    bound: &BoundSelect,
+    sources: &[Source<'_>],
+) -> Result<Option<Vec<Row>>, AllocError>
+    requires { filed_in sources.now ≡ [] }
+    ensures { IfOk result (λ found. rows_found found
+        ≡ option_map (listed (keys_of bound.now.keys.items))
+        (eval (query_of bound.now.query) (instance_in sources.now))) }
+{
+    let mut nothing = MemFetch::new(alloc, Vec::new(alloc))?;
+    let answer = answered_in_order(alloc, &bound.query, &bound.keys, sources, &mut nothing);
+    let Ok(rows) = answer else {
+        return Err(AllocError);
+    };
+    Ok(rows)
 }
 
 fn copies(alloc: Global, names: &[Text]) -> Result<Vec<Text>, AllocError>

@@ -1,13 +1,16 @@
 //! What a statement reads: where the rows of its sources stand, as its session sees them.
-ghost use Rattle.std.specs.Prelude.{◌≡◌, IfOk};
+ghost use Rattle.std.specs.Prelude.{◌≡◌, ◌∷◌, [], map, is_some, IfOk};
+ghost use Rattle.std.specs.List.{list_all};
 ghost use Rattle.wh_exec.specs.Source.{filed_in, instance_in};
 ghost use Rattle.wh_fetch.specs.Device.{Counts};
 ghost use Rattle.wh_fetch.specs.DiskFetch.{told_of, faults_of, damage_of, IsRight, GoesOn};
 ghost use Rattle.wh_filed.specs.Filed.{AreAmong};
-ghost use Rattle.wh_catalog.specs.Catalog.{filed_of};
+ghost use Rattle.wh_catalog.specs.Catalog.{stored_of, filed_of};
+ghost use Rattle.wh_state.specs.Objects.{stream_at};
 ghost use Rattle.wh_machine.specs.Reading as machine;
 ghost use Rattle.wh_decide.specs.Sight.{machine_in, IsShown};
-ghost use Rattle.wh_decide.specs.Sources.{bag_seen, bags_seen, filed_by, filed_seen};
+ghost use Rattle.wh_decide.specs.Sources.{bag_seen, bags_seen, filed_by, filed_seen, is_stream};
+ghost use Rattle.wh_decide.specs.Asked.{AsksForMoved};
 
 use crate::sight::Sight;
 use std::alloc::{AllocError, Global};
@@ -40,6 +43,11 @@ pub(crate) fn sources_seen<'a, D: Disk>(
         ≡ machine.instance_read (machine_in sight.now) sight.now.session ids.now) }
     ensures among { IfOk result (λ seen.
         AreAmong (filed_seen seen.items) (filed_of sight.now.catalog.now)) }
+    ensures streams { IfOk result (λ seen. map is_stream seen.items
+        ≡ map (λ id. is_some (stream_at (stored_of sight.now.catalog.now).objects id)) ids.now) }
+    ensures asks { AsksForMoved sight.now.catalog.now
+        (machine.start_in (machine_in sight.now) sight.now.session) ids.now
+        fetch.old.asked.items fetch.new.asked.items }
     ensures sound { IsShown (told_of D.Disk fetch.old) sight.now
         → damage_of fetch.new ≡ damage_of fetch.old }
     ensures same { told_of D.Disk fetch.new ≡ told_of D.Disk fetch.old }
@@ -66,6 +74,11 @@ fn source_seen<'a, D: Disk>(
         bag_seen seen ≡ machine.rows_read (machine_in sight.now) sight.now.session id) }
     ensures among { IfOk result (λ seen.
         AreAmong (filed_by seen) (filed_of sight.now.catalog.now)) }
+    ensures stream { IfOk result (λ seen. is_stream seen
+        ≡ is_some (stream_at (stored_of sight.now.catalog.now).objects id)) }
+    ensures asks { AsksForMoved sight.now.catalog.now
+        (machine.start_in (machine_in sight.now) sight.now.session) (id ∷ [])
+        fetch.old.asked.items fetch.new.asked.items }
     ensures sound { IsShown (told_of D.Disk fetch.old) sight.now
         → damage_of fetch.new ≡ damage_of fetch.old }
     ensures same { told_of D.Disk fetch.new ≡ told_of D.Disk fetch.old }
@@ -97,10 +110,26 @@ pub(crate) fn sources_of<'a>(
     Ok(sources)
 }
 
+// Whether all of them are streams, whose rows are at hand.
+pub(crate) fn are_streams(seen: &[SourceSeen<'_>]) -> bool
+    ensures { result ≡ list_all is_stream seen.now }
+{
+    seen.iter().all(|source| source.is_stream())
+}
+
 impl SourceSeen<'_> {
     ghost use Rattle.std.specs.Prelude.{◌≡◌};
     ghost use Rattle.wh_exec.specs.Source as source;
-    ghost use Rattle.wh_decide.specs.Sources.{bag_seen, filed_by};
+    ghost use Rattle.wh_decide.specs.Sources.{bag_seen, filed_by, is_stream};
+
+    fn is_stream(&self) -> bool
+        ensures { result ≡ is_stream self.now }
+    {
+        match self {
+            SourceSeen::Table(_) => false,
+            SourceSeen::Stream(_) => true,
+        }
+    }
 
     /// Where its rows stand.
     fn place(&self) -> Source<'_>

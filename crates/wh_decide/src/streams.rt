@@ -1,4 +1,4 @@
-ghost use Rattle.std.specs.Prelude.{◌≡◌, Some, None, option_map, IfOk};
+ghost use Rattle.std.specs.Prelude.{◌≡◌, ◌∷◌, [], Some, None, option_map, IfOk};
 ghost use Rattle.wh_fetch.specs.Device.{Counts};
 ghost use Rattle.wh_fetch.specs.DiskFetch.{told_of, faults_of, damage_of, IsRight, GoesOn};
 ghost use Rattle.wh_reply.specs.View.{refusal_view};
@@ -10,6 +10,7 @@ ghost use Rattle.wh_machine.specs.Definitions.{defines};
 ghost use Rattle.wh_record.specs.View.{change_of};
 ghost use Rattle.wh_catalog.specs.Catalog.{state_of};
 ghost use Rattle.wh_decide.specs.Sight.{machine_in, IsShown, Comes, IsReady};
+ghost use Rattle.wh_decide.specs.Asked.{AsksForMoved};
 
 use crate::decision::{Decision, Settlement};
 use crate::definitions::{count_refusal, defined, definition_refusal, drop_object, is_long};
@@ -104,6 +105,9 @@ pub(crate) fn has_data<D: Disk>(
         → IfOk result (λ decision. Comes sight.now decision
         (reading.has_data (machine_in sight.now) sight.now.session None id)) }
     ensures ready { IfOk result (λ decision. IsReady sight.now decision) }
+    ensures asks { AsksForMoved sight.now.catalog.now
+        (reading.start_in (machine_in sight.now) sight.now.session) (id ∷ [])
+        fetch.old.asked.items fetch.new.asked.items }
     ensures sound { IsShown (told_of D.Disk fetch.old) sight.now
         → damage_of fetch.new ≡ damage_of fetch.old }
     ensures same { told_of D.Disk fetch.new ≡ told_of D.Disk fetch.old }

@@ -2,20 +2,22 @@
 --     rows_bag        the bag of rows that were found, if they are there
 --     change_of       rows that come and rows that go
 --     change_found    the same, if they are there
---     sources_of      the sources before, and what of each comes and goes
+--     turning         sources before, and what of each comes and goes
+--     sources_of      so of those that code goes over
 --     NetsTo          the net of a change that was found
 --     Turns           the rows of a query before, and its change
 --     AreCovered, AreShown     a fetch covers the partitions of all sources, and shows them
-use Rattle.std.specs.Prelude.{◌≡◌, Option, Some, None, option_map, Vec}
+use Rattle.std.specs.Prelude.{◌≡◌, List, Option, Some, None, option_map, Vec}
 use Rattle.std.specs.Global.{Global}
 use Rattle.wh_value.specs.declared.row.Row.{Row}
 use Rattle.wh_meaning.specs.Bag.{Bag, bag_of}
 use Rattle.wh_meaning.specs.BagChange.{IsNet}
-use Rattle.wh_meaning.specs.Query.{Query, eval}
+use Rattle.wh_meaning.specs.Query.{Query, Instance, eval}
 use Rattle.wh_frame.specs.Partition.{Partition}
 use Rattle.wh_part.specs.declared.meta.PartMeta.{PartMeta}
 use Rattle.wh_filed.specs.Fetching.{AllShownBy, AllCovered}
 use Rattle.wh_exec.specs.Source.{instance_in, filed_in}
+use Rattle.wh_exec.specs.declared.source.Source.{Source}
 use Rattle.wh_maintenance.specs.Carried.{Change}
 use Rattle.wh_maintenance.specs.Delta.{Sources, Carries}
 use Rattle.wh_delta.specs.declared.moves.Moves.{Moves}
@@ -31,12 +33,11 @@ change_of m = record { comes = bag_of m.comes.items; goes = bag_of m.goes.items 
 abbrev pub change_found : Option Moves → Option Change
 change_found found = option_map change_of found
 
+abbrev pub turning : Instance → List Source → List Source → Sources
+turning old comes goes = record { old = old; comes = instance_in comes; goes = instance_in goes }
+
 abbrev pub sources_of : Changing → Sources
-sources_of s = record {
-  old = instance_in s.old.now;
-  comes = instance_in s.comes.now;
-  goes = instance_in s.goes.now;
-}
+sources_of s = turning (instance_in s.old.now) s.comes.now s.goes.now
 
 -- the net of what was found, if something was
 abbrev pub NetsTo : Option Change → Option Moves → Type 0

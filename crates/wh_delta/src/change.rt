@@ -8,7 +8,7 @@ ghost use Rattle.wh_algebra.specs.View.{query_of};
 ghost use Rattle.wh_exec.specs.Source.{instance_in, filed_in};
 ghost use Rattle.wh_maintenance.specs.Delta.{Carries, AreTurns};
 ghost use Rattle.wh_maintenance.specs.Delta as changes;
-ghost use Rattle.wh_delta.specs.Moves.{change_found};
+ghost use Rattle.wh_delta.specs.Moves.{turning, change_found};
 ghost use Rattle.wh_delta.specs.Moved.{AreNumbered, HoldsFor};
 ghost use Rattle.wh_delta.specs.Found.{FindsNet, IsApart};
 
@@ -34,8 +34,8 @@ pub fn delta<F: Fetch>(
     fetch: &mut F,
 ) -> Result<Option<Signed>, FetchFault>
     requires { HoldsFor (IsCovered (F.covers fetch.old)) (query_of query.now) old.now new.now }
-    ensures change { HoldsFor (IsShownBy (F.contents fetch.old)) (query_of query.now) old.now new.now
-        → AreNumbered old.now new.now → IfOk result (λ found. (was : Bag)
+    ensures change { HoldsFor (IsShownBy (F.contents fetch.old)) (query_of query.now)
+        old.now new.now → AreNumbered old.now new.now → IfOk result (λ found. (was : Bag)
         → eval (query_of query.now) (instance_in old.now) ≡ Some was
         → FindsNet was (eval (query_of query.now) (instance_in new.now)) found) }
     ensures apart { IfOk result IsApart }
@@ -71,8 +71,7 @@ pub fn linear_delta<F: Fetch>(
     ensures change { AllShownBy (F.contents fetch.old) (filed_in comes.now)
         → AllShownBy (F.contents fetch.old) (filed_in goes.now)
         → IfOk result (λ found. (old new : Instance) (was : Bag)
-        → AreTurns (record { old = old; comes = instance_in comes.now; goes = instance_in goes.now })
-        new → eval (query_of query.now) old ≡ Some was
+        → AreTurns (turning old comes.now goes.now) new → eval (query_of query.now) old ≡ Some was
         → FindsNet was (eval (query_of query.now) new) found) }
     ensures apart { IfOk result IsApart }
     ensures sound { AllShownBy (F.contents fetch.old) (filed_in comes.now)
@@ -106,8 +105,7 @@ fn moves_of<F: Fetch>(
         → (changes.linear (query_of query.now) ≡ false
         → AllShownBy (F.contents fetch.old) (filed_in old.now)) → IfOk result
         (λ found. Carries (query_of query.now)
-        (record { old = instance_in old.now; comes = instance_in comes.now; goes = instance_in goes.now })
-        (change_found found)) }
+        (turning (instance_in old.now) comes.now goes.now) (change_found found)) }
     ensures sound { AllShownBy (F.contents fetch.old) (filed_in comes.now)
         → AllShownBy (F.contents fetch.old) (filed_in goes.now)
         → (changes.linear (query_of query.now) ≡ false

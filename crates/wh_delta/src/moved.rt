@@ -230,7 +230,8 @@ fn pass<'a>(
     Ok(place)
 }
 
-// The place of the first one whose number isn't lower, from a place on; the end where there is none.
+// The place of the first one whose number isn't lower, from a place on; the end where there is
+// none.
 fn first_not_lower(one: &FiledPartition, others: &[&FiledPartition], from: usize) -> usize
     requires { LowerBefore one.now others.now from }
     ensures front { LowerBefore one.now others.now result }

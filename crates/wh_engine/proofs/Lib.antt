@@ -6,5 +6,6 @@ mod HaltLemmas
 mod CarryLemmas
 mod AppendLemmas
 mod DecidedLemmas
+mod AskedLemmas
 mod ReplayLemmas
 mod OpenLemmas

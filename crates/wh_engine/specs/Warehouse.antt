@@ -11,6 +11,7 @@
 --     ReadsNothing        the disk wasn't read, and no partition asked for
 --     ReadsOnceEach       it was read at most once for each that was
 --     machine_of          the machine that it is
+--     decided_at          the machine at the stamp of an event
 --     made_in, led_to     the commit that an event makes, and the machine that it leads to
 --     state_with          the state at a stamp, with a commit or without
 use Rattle.std.specs.Prelude.{◌≡◌, ℕ, ◌+◌, ◌-◌, ◌≤◌, List, [], map, length, Option, Some, None}
@@ -22,7 +23,7 @@ use Rattle.wh_state.specs.Commit.{Commit, Leads}
 use Rattle.wh_state.specs.Spelling.{payload_of, IsCommit}
 use Rattle.wh_state.specs.Written.{kept_after}
 use Rattle.wh_machine.specs.Outcome.{Machine}
-use Rattle.wh_machine.specs.Step.{Event, step}
+use Rattle.wh_machine.specs.Step.{Event, step, at_stamp, stamp_of, reading_of}
 use Rattle.wh_machine.specs.Made.{made}
 use Rattle.wh_world.specs.Crash.{Only}
 use Rattle.wh_world.specs.declared.disk.Disk.{Ghosts}
@@ -95,6 +96,9 @@ pub record ReadsOnceEach {D : Type 0} {seen : Ghosts D} (old new : Warehouse D s
 
 abbrev pub machine_of : {D : Type 0} {seen : Ghosts D} → Warehouse D seen → Machine
 machine_of w = record { state = state_of w.catalog; sessions = sessions_of w.sessions }
+
+abbrev pub decided_at : {D : Type 0} {seen : Ghosts D} → Warehouse D seen → Event → Machine
+decided_at w event = at_stamp (machine_of w) (stamp_of (state_of w.catalog) (reading_of event))
 
 abbrev pub made_in : {D : Type 0} {seen : Ghosts D} → Warehouse D seen → Event → Option Commit
 made_in w event = made (stored_of w.catalog) (machine_of w) event

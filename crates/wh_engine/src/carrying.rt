@@ -10,7 +10,7 @@ use wh_value::Limit;
 use wh_world::Disk;
 
 impl<D: Disk> Warehouse<D> {
-    ghost use Rattle.std.specs.Prelude.{◌≡◌, ◌<◌, ◌≤◌, None, Some, option_map, OnOk, IfOk, IfErr};
+    ghost use Rattle.std.specs.Prelude.{◌≡◌, ◌<◌, ◌≤◌, [], None, Some, option_map, OnOk, IfOk, IfErr};
     ghost use Rattle.std.specs.Prelude.{Option};
     ghost use Rattle.wh_value.specs.Limit.{bound};
     ghost use Rattle.wh_value.specs.declared.limit.Limit.TheVariants as limits;
@@ -25,12 +25,13 @@ impl<D: Disk> Warehouse<D> {
     ghost use Rattle.wh_txn.specs.View.{sessions_of};
     ghost use Rattle.wh_txn.specs.Recording.{IsAt, IsRead};
     ghost use Rattle.wh_decide.specs.Event.{event_of};
+    ghost use Rattle.wh_decide.specs.Asked.{AsksInEvent};
     ghost use Rattle.wh_decide.specs.Decision.{commit_in, sessions_after, settlement_of};
     ghost use Rattle.wh_decide.specs.Decision.{machine_at, Decides, CanSettle};
     ghost use Rattle.wh_engine.specs.Fault.{halt_of_fetch};
     ghost use Rattle.wh_engine.specs.Warehouse.{made_in, led_to, state_with};
     ghost use Rattle.wh_engine.specs.Warehouse.{ShowsAll, IsOnlyRead, ReadsNothing};
-    ghost use Rattle.wh_engine.specs.Warehouse.{ReadsOnceEach, IsBegun};
+    ghost use Rattle.wh_engine.specs.Warehouse.{ReadsOnceEach, IsBegun, fetched_of, decided_at};
     ghost use Rattle.wh_engine.specs.Answers.{Answered, CarriesOut, CarriesSome};
     ghost use Rattle.wh_engine.specs.Halts.{Halted, HaltedSome};
     ghost use Rattle.wh_engine.specs.Leaves.{Leaves};
@@ -52,6 +53,8 @@ impl<D: Disk> Warehouse<D> {
         // Over any disk.
         ensures carried { OnOk result (CarriesSome self.old self.new) }
         ensures stopped { IfErr result (HaltedSome self.old self.new) }
+        ensures asks { AsksInEvent self.old.catalog (decided_at self.old (event_of event.now))
+            (event_of event.now) [] (fetched_of self.new) }
         ensures reads { ReadsOnceEach self.old self.new }
         ensures limit { limit_of self.new.journal ≡ limit_of self.old.journal }
     {
@@ -90,6 +93,9 @@ impl<D: Disk> Warehouse<D> {
         // Over any disk.
         ensures settles { IfOk result (λ decision. CanSettle (sessions_of self.new.sessions) stamp
             (settlement_of decision)) }
+        ensures asks { AsksInEvent self.new.catalog
+            (machine_at (stamped (state_of self.new.catalog) stamp) (sessions_of self.new.sessions))
+            (event_of event.now) (fetched_of self.old) (fetched_of self.new) }
         ensures same { IsOnlyRead self.old self.new }
         ensures reads { ReadsOnceEach self.old self.new }
         ensures no_fault { OnOk result

@@ -1,3 +1,5 @@
+ghost use Rattle.wh_state.specs.State.{first_state};
+ghost use Rattle.wh_state.specs.Sound.{Sound};
 ghost use Rattle.wh_engine.specs.Laws.{RefusalsChangeNothing, BatchesLead, ReadsTheSame};
 ghost use Rattle.wh_engine.specs.Laws.{CommitsMoveToTheStart, ChangesMoveToTheStart};
 ghost use Rattle.wh_engine.specs.Laws.{CommitsConsumeWhatWasRead};
@@ -42,6 +44,11 @@ pub fn batches_are_what_was_read()
     ensures changes { ChangesConsumeWhatTheyRead }
     ensures runs { RunsConsumeWhatTheyRead }
     ensures others { NothingElseConsumes }
+{}
+
+/// The state of a new file is sound.
+pub fn new_files_are_sound()
+    ensures { Sound first_state }
 {}
 
 /// A sound state opens to a machine that is sound, and of which no two sessions hold one stream:

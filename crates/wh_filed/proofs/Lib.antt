@@ -1,4 +1,5 @@
 pub mod FilingLaws
 pub mod ShownLaws
 pub mod FetchingLaws
+pub mod AskingLaws
 mod LoadingLemmas

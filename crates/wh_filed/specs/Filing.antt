@@ -2,7 +2,7 @@
 --     filed_one, filed_from     a partition of an object at a position, and several from there on
 --     spelled_at, IsSpelledIn   the same of the bytes where a partition stands; it is the one that stands there
 --     EndsBy                    its bytes end by a position
-use Rattle.std.specs.Prelude.{◌≡◌, ℕ, ◌+◌, ◌≤◌, List, [], ◌∷◌, length, Option, Some, None, nat_lt, if◌then◌else◌}
+use Rattle.std.specs.Prelude.{◌≡◌, ℕ, ◌+◌, ◌≤◌, List, [], ◌∷◌, length, Option, Some}
 use Rattle.wh_world.specs.Bytes.{part_at}
 use Rattle.wh_frame.specs.Partition.{Partition}
 use Rattle.wh_frame.specs.Spelling.{partition_bytes}

@@ -1,11 +1,13 @@
 //! Partitions that are asked for one after the other.
-ghost use Rattle.std.specs.Prelude.{◌≡◌, IfOk};
+ghost use Rattle.std.specs.Prelude.{◌≡◌, Contains, IfOk};
 ghost use Rattle.std.specs.Arc.{arc_value};
 ghost use Rattle.wh_part.specs.declared.meta.PartMeta.{PartMeta};
+ghost use Rattle.wh_fetch.specs.Fetch.{Asks};
 ghost use Rattle.wh_fetch.specs.Device.{Counts};
 ghost use Rattle.wh_fetch.specs.DiskFetch.{told_of, faults_of, damage_of, IsRight, GoesOn};
 ghost use Rattle.wh_filed.specs.Filed.{filed_at, partitions_at, loaded_of, AllShown};
 ghost use Rattle.wh_filed.specs.Fetching.{IsShownBy, AllShownBy, IsCovered, AllCovered};
+ghost use Rattle.wh_filed.specs.Asking.{id_of, AsksFor};
 
 use crate::FiledPartition;
 use std::alloc::Global;
@@ -25,6 +27,8 @@ pub fn load<D: Disk>(
         → IfOk result (λ loaded. loaded_of loaded.items ≡ partitions_at filed.now) }
     ensures sound { AllShown (told_of D.Disk fetch.old) (filed_at filed.now)
         → damage_of fetch.new ≡ damage_of fetch.old }
+    ensures asks { AsksFor (Contains (filed_at filed.now))
+        fetch.old.asked.items fetch.new.asked.items }
     ensures same { told_of D.Disk fetch.new ≡ told_of D.Disk fetch.old }
     ensures goes { GoesOn D.Disk fetch.old fetch.new }
     ensures counts { Counts (faults_of D.Disk fetch.old) (faults_of D.Disk fetch.new) result }
@@ -43,6 +47,7 @@ pub fn fetch_all<F: Fetch>(
         → IfOk result (λ loaded. loaded_of loaded.items ≡ partitions_at filed.now) }
     ensures sound { AllShownBy (F.contents fetch.old) (filed_at filed.now)
         → F.damage fetch.new ≡ F.damage fetch.old }
+    ensures asks { AsksFor (Contains (filed_at filed.now)) (F.asked fetch.old) (F.asked fetch.new) }
     ensures same { F.contents fetch.new ≡ F.contents fetch.old }
     ensures goes { F.stays fetch.old fetch.new }
     ensures counts { Counts (F.faults fetch.old) (F.faults fetch.new) result }
@@ -65,6 +70,7 @@ pub fn fetch_one<F: Fetch>(
         → IfOk result (λ found. arc_value found ≡ filed.now.partition) }
     ensures sound { IsShownBy (F.contents fetch.old) filed.now
         → F.damage fetch.new ≡ F.damage fetch.old }
+    ensures asks { Asks result (id_of filed.now) (F.asked fetch.old) (F.asked fetch.new) }
     ensures same { F.contents fetch.new ≡ F.contents fetch.old }
     ensures covered { (part : PartMeta) → F.covers fetch.old part → F.covers fetch.new part }
     ensures goes { F.stays fetch.old fetch.new }

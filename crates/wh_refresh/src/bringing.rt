@@ -36,8 +36,8 @@ pub(crate) fn bring_all<F: Fetch>(
 ) -> Result<Option<Vec<Brought>>, FetchFault>
     requires { AllCovered (F.covers fetch.old) (filed_at_objects objects.now) }
     ensures brought { AllShownBy (F.contents fetch.old) (filed_at_objects objects.now)
-        → AllStand (objects_in objects.now) → IfOk result (λ found. (stamp : ℕ) → RiseAbove 0 ids.now
-        → BringsOr (stored_in objects.now) found
+        → AllStand (objects_in objects.now) → IfOk result (λ found. (stamp : ℕ)
+        → RiseAbove 0 ids.now → BringsOr (stored_in objects.now) found
         (machine.brought_all stamp moment ids.now (objects_in objects.now))) }
     ensures sound { AllShownBy (F.contents fetch.old) (filed_at_objects objects.now)
         → F.damage fetch.new ≡ F.damage fetch.old }
@@ -65,8 +65,8 @@ fn bring<F: Fetch>(
 ) -> Result<Option<Brought>, FetchFault>
     requires { AllCovered (F.covers fetch.old) (filed_at_objects objects.now) }
     ensures brought { AllShownBy (F.contents fetch.old) (filed_at_objects objects.now)
-        → AllStand (objects_in objects.now) → IfOk result (λ found. (stamp : ℕ) (bs : List machine.Brought)
-        → AreBrought (stored_in objects.now) before.now bs → AreAbove 0 bs → sought id bs ≡ None
+        → AllStand (objects_in objects.now) → IfOk result
+        (λ found. (stamp : ℕ) (bs : List machine.Brought) → AreBrought (stored_in objects.now) before.now bs → AreAbove 0 bs → sought id bs ≡ None
         → BringsOneOr (stored_in objects.now) found
         (machine.brought_one (after_all stamp moment bs (objects_in objects.now)) moment id)) }
     ensures sound { AllShownBy (F.contents fetch.old) (filed_at_objects objects.now)

@@ -29,8 +29,8 @@ pub(crate) struct NewRows {
 /// The version to come of the table of an id, if there is one.
 #[cycle(new_rows_of)]
 pub(crate) fn new_rows_of(all: &[Brought], id: u32) -> Option<&NewRows>
-    ensures { (stored : List StoredObject) (bs : List machine.Brought) → AreBrought stored all.now bs
-        → IsRowsOf stored id (option_map (λ r. r.now) result) (edits_sought id bs) }
+    ensures { (stored : List StoredObject) (bs : List machine.Brought)
+        → AreBrought stored all.now bs → IsRowsOf stored id (option_map (λ r. r.now) result) (edits_sought id bs) }
 {
     match all {
         [] => None,

@@ -1,5 +1,5 @@
-//! The partitions of a table in which rows may stand that a net change takes away, as far as what is
-//! known of them without their rows tells.
+//! The partitions of a table in which rows may stand that a net change takes away, as far as what
+//! is known of them without their rows tells.
 ghost use Rattle.std.specs.Prelude.{◌≡◌, ◌∷◌, ◌++◌, [], map, List, Contains, IfOk, OnOk};
 ghost use Rattle.std.specs.Bool.{OnFalse};
 ghost use Rattle.std.specs.List.{AllByRecursion};

@@ -29,8 +29,8 @@ use wh_filed::fetch_all;
 use wh_reply::RefreshAction;
 use wh_table::by_rows;
 
-/// By its action; None where its query is undefined. One that is brought by a change has the rows of
-/// its query for the moment that it stands for.
+/// By its action; None where its query is undefined. One that is brought by a change has the rows
+/// of its query for the moment that it stands for.
 pub(crate) fn rebased_by<F: Fetch>(
     alloc: Global,
     objects: &[&StoredObject],

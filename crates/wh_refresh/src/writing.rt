@@ -48,8 +48,8 @@ fn line(
     moment: u64,
     one: &Brought,
 ) -> Result<Refreshed, AllocError>
-    ensures { IfOk result (λ line. (b : machine.Brought) → IsBrought (stored_in objects.now) one.now b
-        → refreshed_view line ≡ machine.told_of (objects_in objects.now) moment b) }
+    ensures { IfOk result (λ line. (b : machine.Brought)
+        → IsBrought (stored_in objects.now) one.now b → refreshed_view line ≡ machine.told_of (objects_in objects.now) moment b) }
 {
     let (plus, minus) = counts(one);
     Ok(Refreshed {

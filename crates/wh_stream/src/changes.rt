@@ -3,12 +3,14 @@ ghost use Rattle.std.specs.Prelude.{◌≡◌, IfOk};
 ghost use Rattle.wh_fetch.specs.Device.{Counts};
 ghost use Rattle.wh_fetch.specs.DiskFetch.{told_of, faults_of, damage_of, IsRight, GoesOn};
 ghost use Rattle.wh_filed.specs.Filed.{AllShown};
+ghost use Rattle.wh_filed.specs.Asking.{AsksFor};
 ghost use Rattle.wh_state.specs.Stored.{table_meant};
 ghost use Rattle.wh_net.specs.Stream.{shown};
 ghost use Rattle.wh_table.specs.Table as tables;
 ghost use Rattle.wh_table.specs.Table.{table_of};
 ghost use Rattle.wh_catalog.specs.Catalog.{state_of, filed_of};
 ghost use Rattle.wh_catalog.specs.Stream.{stream_of};
+ghost use Rattle.wh_stream.specs.Asked.{IsStandard, IsMovedIn, IsMovedFor};
 ghost use Rattle.wh_stream.specs.Loaded.{Gives};
 ghost use Rattle.wh_stream.specs.Shown.{records_shown};
 
@@ -33,6 +35,9 @@ pub(crate) fn changes_behind<D: Disk>(
     ensures given { AllShown (told_of D.Disk fetch.old) (filed_of catalog.now)
         → IfOk result (λ found. Gives found
         (records_shown (state_of catalog.now).objects (stream_of stream.now) start)) }
+    ensures asks { IsStandard (stream_of stream.now)
+        → AsksFor (IsMovedFor catalog.now (stream_of stream.now) start)
+        fetch.old.asked.items fetch.new.asked.items }
     ensures sound { AllShown (told_of D.Disk fetch.old) (filed_of catalog.now)
         → damage_of fetch.new ≡ damage_of fetch.old }
     ensures same { told_of D.Disk fetch.new ≡ told_of D.Disk fetch.old }
@@ -57,6 +62,9 @@ fn changes_of<D: Disk>(
     ensures given { AllShown (told_of D.Disk fetch.old) (tables.filed_of table.now)
         → IfOk result (λ found. Gives found
         (shown (table_meant (table_of table.now)) (stream_of stream.now) start)) }
+    ensures asks { IsStandard (stream_of stream.now)
+        → AsksFor (IsMovedIn table.now (stream_of stream.now) start)
+        fetch.old.asked.items fetch.new.asked.items }
     ensures sound { AllShown (told_of D.Disk fetch.old) (tables.filed_of table.now)
         → damage_of fetch.new ≡ damage_of fetch.old }
     ensures same { told_of D.Disk fetch.new ≡ told_of D.Disk fetch.old }

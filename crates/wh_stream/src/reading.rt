@@ -3,9 +3,11 @@ ghost use Rattle.std.specs.Prelude.{◌≡◌, option_map, IfOk};
 ghost use Rattle.wh_fetch.specs.Device.{Counts};
 ghost use Rattle.wh_fetch.specs.DiskFetch.{told_of, faults_of, damage_of, IsRight, GoesOn};
 ghost use Rattle.wh_filed.specs.Filed.{AllShown};
+ghost use Rattle.wh_filed.specs.Asking.{AsksFor};
 ghost use Rattle.wh_net.specs.Stream.{rows_shown, has_rows, is_gone, stale_at};
 ghost use Rattle.wh_catalog.specs.Catalog.{state_of, filed_of};
 ghost use Rattle.wh_catalog.specs.Stream.{stream_of};
+ghost use Rattle.wh_stream.specs.Asked.{IsStandard, IsMovedFor};
 
 use crate::changes::changes_behind;
 use crate::rows::shown_rows;
@@ -29,6 +31,9 @@ pub fn show<D: Disk>(
     ensures shown { AllShown (told_of D.Disk fetch.old) (filed_of catalog.now)
         → IfOk result (λ rows. rows.items
         ≡ rows_shown (state_of catalog.now).objects (stream_of stream.now) start) }
+    ensures asks { IsStandard (stream_of stream.now)
+        → AsksFor (IsMovedFor catalog.now (stream_of stream.now) start)
+        fetch.old.asked.items fetch.new.asked.items }
     ensures sound { AllShown (told_of D.Disk fetch.old) (filed_of catalog.now)
         → damage_of fetch.new ≡ damage_of fetch.old }
     ensures same { told_of D.Disk fetch.new ≡ told_of D.Disk fetch.old }
@@ -53,6 +58,9 @@ pub fn has_data<D: Disk>(
     ensures shown { AllShown (told_of D.Disk fetch.old) (filed_of catalog.now)
         → IfOk result (λ has. has
         ≡ has_rows (rows_shown (state_of catalog.now).objects (stream_of stream.now) start)) }
+    ensures asks { IsStandard (stream_of stream.now)
+        → AsksFor (IsMovedFor catalog.now (stream_of stream.now) start)
+        fetch.old.asked.items fetch.new.asked.items }
     ensures sound { AllShown (told_of D.Disk fetch.old) (filed_of catalog.now)
         → damage_of fetch.new ≡ damage_of fetch.old }
     ensures same { told_of D.Disk fetch.new ≡ told_of D.Disk fetch.old }

@@ -3,7 +3,7 @@ use std::alloc::{AllocError, Global};
 use wh_version::{Arrivals, Leading, Turnover};
 
 impl StoredTable {
-    ghost use Rattle.std.specs.Prelude.{◌≡◌, ◌<◌, ◌≤◌, [], length, take, drop, Contains, IfOk};
+    ghost use Rattle.std.specs.Prelude.{◌≡◌, ◌<◌, ◌≤◌, [], length, take, drop, IfOk};
     ghost use Rattle.std.specs.List.{AllByRecursion};
     ghost use Rattle.std.specs.FinMap.{entries};
     ghost use Rattle.wh_filed.specs.Filed.{filed_at, partitions_at, AreAmong};
@@ -12,6 +12,7 @@ impl StoredTable {
     ghost use Rattle.wh_state.specs.Stored.{rows_of};
     ghost use Rattle.wh_version.specs.Arrivals.{IsFront};
     ghost use Rattle.wh_version.specs.Times.{data_at};
+    ghost use Rattle.wh_version.specs.Moved.{IsMoved};
     ghost use Rattle.wh_version.specs.Turnover.{IsTurnover};
     ghost use Rattle.wh_table.specs.Changes.{AreArrivals};
     ghost use Rattle.wh_table.specs.Shown.{TurnsOver};
@@ -29,10 +30,12 @@ impl StoredTable {
             (partitions_at found.went.items) (partitions_at found.came.items)
             (content_in [] (data_at from (table_of self.now).versions))
             (content_in [] (data_at to (table_of self.now).versions))) }
-        ensures went { IfOk result (λ found.
-            AllByRecursion (Contains (filed_of self.now)) (filed_at found.went.items)) }
-        ensures came { IfOk result (λ found.
-            AllByRecursion (Contains (filed_of self.now)) (filed_at found.came.items)) }
+        ensures went { IfOk result (λ found. AllByRecursion
+            (IsMoved from to (table_of self.now).versions (filed_of self.now))
+            (filed_at found.went.items)) }
+        ensures came { IfOk result (λ found. AllByRecursion
+            (IsMoved from to (table_of self.now).versions (filed_of self.now))
+            (filed_at found.came.items)) }
     {
         let turnover = self.history.turnover(alloc, from, to)?;
         Ok(turnover)

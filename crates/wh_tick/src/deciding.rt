@@ -13,6 +13,7 @@ ghost use Rattle.wh_catalog.specs.Catalog.{filed_of, stored_of, state_of};
 ghost use Rattle.wh_txn.specs.Recording.{IsAt, IsRead};
 ghost use Rattle.wh_txn.specs.View.{sessions_of};
 ghost use Rattle.wh_decide.specs.Event.{event_of};
+ghost use Rattle.wh_decide.specs.Asked.{AsksInEvent};
 ghost use Rattle.wh_decide.specs.Decision.{commit_in, settlement_of, machine_at};
 ghost use Rattle.wh_decide.specs.Decision.{Decides, StagesInOpen};
 ghost use Rattle.wh_decide.specs.Sight.{machine_in, Comes, IsReady, IsShown, IsSound};
@@ -52,6 +53,9 @@ pub fn decide<D: Disk>(
         → damage_of fetch.new ≡ damage_of fetch.old }
 
     // Over any disk.
+    ensures asks { AsksInEvent catalog.now
+        (machine_at (stamped (state_of catalog.now) stamp) (sessions_of sessions.now))
+        (event_of event.now) fetch.old.asked.items fetch.new.asked.items }
     ensures staged { IfOk result (λ decision.
         StagesInOpen (sessions_of sessions.now) (settlement_of decision)) }
     ensures timed { IfOk result (λ decision. IsAt stamp (commit_in (settlement_of decision))) }

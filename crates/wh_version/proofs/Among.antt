@@ -3,7 +3,7 @@
 --     told_held       so does what is told of them
 --     front_held      the first ones are among them
 --     filtered_held   those that pass a test are
---     picked_held, behind_held  so are those of the first ones that pass it, and what comes behind others
+--     behind_held     so is what comes behind others of the first ones that pass it
 --     left_held, right_held     what lies in front of others is among all, and so is what is among those behind
 use Rattle.std.proofs.Common.{◌≡◌, ℕ, zero, suc, Bool, true, false, cond, List, [], ◌∷◌, ◌++◌, take, filter, Contains}
 use Rattle.std.proofs.Common.{refl, sym, subst, arith}
@@ -47,7 +47,7 @@ filtered_held test (k ∷ kept) =
     by_test true rest = ((0, omega arith, refl), rest)
     by_test false rest = rest
 
-pub picked_held : (test : Lasting → Bool) (n : ℕ) (kept : List Lasting) (found : List Filed)
+picked_held : (test : Lasting → Bool) (n : ℕ) (kept : List Lasting) (found : List Filed)
     → found ≡ filed_in (filter test (take n kept))
     → AllByRecursion (Contains (filed_in kept)) found
 picked_held test n kept found is =

@@ -19,6 +19,8 @@ pub mod Amended
 pub mod LastUpTo
 pub mod Starts
 pub mod TurnoverLaws
+pub mod MovedLaws
+pub mod Going
 pub mod ArrivalLaws
 pub mod FrontLaws
 pub mod VersionTimes

@@ -1,5 +1,6 @@
 -- What went and came between two versions, by their marks.
---     reach_stands     what stands by a version's reach
+--     content_there    what stands by a version's reach, whether the history starts empty or not
+--     reach_within     its place is one of the marks'
 --     reach_grows      a later version's reach is no shorter
 --     standing_on      what stands by a reach of one partition more
 --     turned_over      what went and came between two reaches
@@ -12,17 +13,20 @@ use Rattle.std.proofs.lemmas.List.{take_more}
 use Rattle.std.specs.Prelude.{nat_lt, nat_le}
 use Rattle.wh_frame.specs.Partition.{Partition}
 use Rattle.wh_state.specs.State.{content_in}
+use Rattle.wh_version.specs.declared.history.History.{History}
 use Rattle.wh_version.specs.declared.lasting.Lasting.{Lasting}
 use Rattle.wh_version.specs.declared.mark.VersionMark.{VersionMark}
 use Rattle.wh_version.specs.declared.turnover.Reach.{Reach}
 use Rattle.wh_version.specs.declared.times.Time.TheVariants.{Data}
-use Rattle.wh_version.specs.Lasting.{standing_at, gone_between, versions_by, count_to}
+use Rattle.wh_version.specs.History.{versions_of, marks_of}
+use Rattle.wh_version.specs.Lasting.{standing_at, gone_between, version_by, versions_by, count_to}
 use Rattle.wh_version.specs.Times.{data_at, is_up_to, last_place, one_further}
 use Rattle.wh_version.specs.Turnover.{IsMixed, IsTurnover, reach_at}
 use Rattle.wh_version.proofs.Kept.{standing_append}
 use Rattle.wh_version.proofs.LastUpTo.{last_by_marks, mark_within, place_within}
+use Rattle.wh_version.proofs.Starts.{first_empty, found_behind}
 
-pub reach_stands : (kept : List Lasting) (m : VersionMark) (marks : List VersionMark) (timestamp : ℕ) (r : Reach)
+reach_stands : (kept : List Lasting) (m : VersionMark) (marks : List VersionMark) (timestamp : ℕ) (r : Reach)
     → r ≡ reach_at (m ∷ marks) m (last_place (is_up_to Data timestamp) (m ∷ marks))
     → content_in [] (data_at timestamp (versions_by kept 0 (m ∷ marks))) ≡ standing_at r.place (take r.partitions kept)
 reach_stands kept m marks timestamp r is =
@@ -40,6 +44,29 @@ reach_stands kept m marks timestamp r is =
         ≡ standing_at (reach_at (m ∷ marks) m found).place (take (reach_at (m ∷ marks) m found).partitions kept)
     by_place None = refl
     by_place (Some place) = refl
+
+pub content_there : (h : History) (timestamp : ℕ) (r : Reach)
+    → r ≡ reach_at (marks_of h) h.first (last_place (is_up_to Data timestamp) (marks_of h))
+    → content_in [] (data_at timestamp (versions_of h)) ≡ standing_at r.place (take r.partitions h.kept.items)
+unfolding versions_of
+content_there h timestamp r is =
+    found_behind (version_by h.kept.items 0 h.first) (first_empty h) h.starts_empty
+    (λ v. nat_le v.data_timestamp timestamp) (versions_by h.kept.items 1 h.later.items)
+    ∙ reach_stands h.kept.items h.first h.later.items timestamp r is
+
+pub reach_within : (m : VersionMark) (marks : List VersionMark) (timestamp : ℕ) (r : Reach)
+    → r ≡ reach_at (m ∷ marks) m (last_place (is_up_to Data timestamp) (m ∷ marks))
+    → r.place ≤ length marks
+reach_within m marks timestamp r is =
+    subst (λ (s : Reach). s.place ≤ length marks) (sym is)
+    (by_place (last_place (is_up_to Data timestamp) (m ∷ marks)) refl)
+  where
+    by_place : (found : Option ℕ) → last_place (is_up_to Data timestamp) (m ∷ marks) ≡ found
+        → (reach_at (m ∷ marks) m found).place ≤ length marks
+    by_place None found = omega arith
+    by_place (Some place) found =
+        let within = place_within (is_up_to Data timestamp) (m ∷ marks) place found in
+        omega arith
 
 -- ---- later places
 

@@ -3,6 +3,7 @@
 --     standing_filed, standing_at    those that stand in the version at a place
 --     gone_filed, gone_between       those that stand in one, and are gone from a later one
 --     versions_by      the versions of marks
+--     going_with       the last place at which one went
 --     numbered_from, count_to, lies_in_front, is_gone_by     what always holds of a table's marks and partitions
 use Rattle.std.specs.Prelude.{ℕ, ◌+◌, Bool, true, false, ◌&&◌, ◌||◌, List, [], ◌∷◌, map, filter, take}
 use Rattle.std.specs.Prelude.{nat_lt, nat_le, nat_eq, min, if◌then◌else◌}
@@ -49,6 +50,11 @@ abbrev pub parted : ℕ → List ℕ → List Lasting → List Lasting
 parted place [] kept = kept
 parted place (number ∷ numbers) kept = parted place numbers (map (part_one place number) kept)
 
+-- the last place at which one went, with those of some numbers that go at a later place
+abbrev pub going_with : ℕ → ℕ → List ℕ → ℕ
+going_with last place [] = last
+going_with last place (number ∷ numbers) = place
+
 -- what was gone from the place on stands again
 abbrev pub stands_again : ℕ → Lasting → Lasting
 stands_again place k = if nat_eq k.until place then record k { until = 18446744073709551615 } else k
@@ -88,6 +94,6 @@ lies_in_front false mark = true
 abbrev pub is_standing : Lasting → Bool
 is_standing k = nat_eq k.until 18446744073709551615
 
--- it stands still, or is gone from a version up to the last one
+-- it stands still, or is gone from a place up to the last one
 abbrev pub is_gone_by : ℕ → Lasting → Bool
 is_gone_by last k = nat_le k.until last || is_standing k

@@ -1,5 +1,6 @@
 pub mod Lists
 pub mod Lasting
+pub mod Moved
 pub mod Times
 pub mod History
 pub mod Version

@@ -18,11 +18,15 @@ pub struct History {
     pub(crate) later: Vec<VersionMark>,
     /// Whether the table was created without a version: the first mark is none then.
     pub(crate) starts_empty: bool,
+    /// The last place at which a partition went, 0 for none: versions since then may have been
+    /// taken back.
+    pub(crate) last_going: usize,
     ghost nothing: { first.partitions ≡ 0 },
     ghost front: { IsTrue (lies_in_front starts_empty first) },
     ghost numbers: { IsTrue (numbered_from 1 (partitions_in kept.items)) },
     ghost marks: { IsTrue (count_to 0 (first ∷ later.items) (length kept.items)) },
     ghost gone: { IsTrue (list_all (is_gone_by (length later.items)) kept.items) },
+    ghost went: { IsTrue (list_all (is_gone_by last_going) kept.items) },
 }
 
 impl History {
@@ -52,6 +56,7 @@ impl History {
             first,
             later: Vec::new(alloc),
             starts_empty: false,
+            last_going: 0,
         }
     }
 
@@ -73,6 +78,7 @@ impl History {
             first,
             later: Vec::new(alloc),
             starts_empty: true,
+            last_going: 0,
         }
     }
 

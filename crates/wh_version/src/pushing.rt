@@ -1,6 +1,7 @@
 ghost use Rattle.std.specs.Prelude.{◌≡◌, ◌+◌, ◌≤◌, ◌++◌, length, map, vec_len, vec_capacity};
 ghost use Rattle.std.specs.Prelude.{IsTrue};
 ghost use Rattle.wh_version.specs.Lasting.{numbered_from, partitions_in, part_one, parted, fresh};
+ghost use Rattle.wh_version.specs.Lasting.{going_with};
 
 use crate::{History, Lasting, VersionMark};
 use std::alloc::AllocError;
@@ -41,6 +42,7 @@ impl History {
         self.later.reserve(1)?;
         let place = self.later.len() + 1;
         part(&mut self.kept, place, removed);
+        self.last_going = going_with(self.last_going, place, removed);
         append(&mut self.kept, added);
         let partitions = self.kept.len();
         self.later.push_reserved(VersionMark {
@@ -50,6 +52,16 @@ impl History {
         });
         Ok(())
     }
+}
+
+// The last place at which a partition went, with these that go at a later one.
+fn going_with(last: usize, place: usize, removed: &[u64]) -> usize
+    ensures { result ≡ going_with last place removed.now }
+{
+    if removed.is_empty() {
+        return last;
+    }
+    place
 }
 
 // From the place on the partitions of these numbers don't stand.

@@ -24,13 +24,15 @@ pub(crate) struct Reach {
 }
 
 impl History {
-    ghost use Rattle.std.specs.Prelude.{◌≡◌, ◌≤◌, [], Contains, IfOk};
+    ghost use Rattle.std.specs.Prelude.{◌≡◌, ◌≤◌, [], length, take, IfOk};
     ghost use Rattle.std.specs.List.{AllByRecursion};
     ghost use Rattle.wh_state.specs.State.{content_in};
     ghost use Rattle.wh_version.specs.declared.times.Time.TheVariants.{Data};
     ghost use Rattle.wh_filed.specs.Filed.{filed_at, partitions_at};
     ghost use Rattle.wh_version.specs.History.{versions_of, filed_of, marks_of};
+    ghost use Rattle.wh_version.specs.Lasting.{gone_filed};
     ghost use Rattle.wh_version.specs.Times.{data_at, is_up_to, last_place};
+    ghost use Rattle.wh_version.specs.Moved.{IsMoved};
     ghost use Rattle.wh_version.specs.Turnover.{IsTurnover, reach_at};
 
     /// What went and came from the last version whose data timestamp is at most `from` to the last
@@ -41,16 +43,38 @@ impl History {
             (partitions_at found.went.items) (partitions_at found.came.items)
             (content_in [] (data_at from (versions_of self.now)))
             (content_in [] (data_at to (versions_of self.now)))) }
-        ensures went { IfOk result (λ found.
-            AllByRecursion (Contains (filed_of self.now)) (filed_at found.went.items)) }
-        ensures came { IfOk result (λ found.
-            AllByRecursion (Contains (filed_of self.now)) (filed_at found.came.items)) }
+        ensures went { IfOk result (λ found. AllByRecursion
+            (IsMoved from to (versions_of self.now) (filed_of self.now))
+            (filed_at found.went.items)) }
+        ensures came { IfOk result (λ found. AllByRecursion
+            (IsMoved from to (versions_of self.now) (filed_of self.now))
+            (filed_at found.came.items)) }
     {
         let old = self.reach(from);
         let new = self.reach(to);
-        let went = gone_between(&self.kept[..old.partitions], old.place, new.place, alloc)?;
+        let went = self.gone_by(alloc, old, new.place)?;
         let came = standing_behind(&self.kept, old.partitions, new, alloc)?;
         Ok(Turnover { went, came })
+    }
+
+    // The partitions that stand by a reach and are gone by a later place.
+    fn gone_by(
+        &self,
+        alloc: Global,
+        old: Reach,
+        new: usize,
+    ) -> Result<Vec<&FiledPartition>, AllocError>
+        requires within { old.partitions ≤ length self.now.kept.items }
+        requires place { new ≤ length self.now.later.items }
+        ensures { IfOk result (λ found. filed_at found.items
+            ≡ gone_filed old.place new (take old.partitions self.now.kept.items)) }
+    {
+        // Of a table whose rows only come, no partition is looked at.
+        if self.last_going <= old.place {
+            return Ok(Vec::new(alloc));
+        }
+        let gone = gone_between(&self.kept[..old.partitions], old.place, new, alloc)?;
+        Ok(gone)
     }
 
     fn reach(&self, timestamp: u64) -> Reach

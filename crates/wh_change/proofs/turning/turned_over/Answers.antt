@@ -1,7 +1,11 @@
-use Rattle.std.proofs.Common.{◌∙◌, ap, refl}
+use Rattle.std.proofs.Common.{◌∙◌, ap, refl, sym, subst}
+use Rattle.std.specs.List.{AllByRecursion}
 use Rattle.wh_filed.specs.Filed.{partitions_at, filed_at, AllShown}
 use Rattle.wh_fetch.specs.DiskFetch.{told_of, goes_on}
+use Rattle.wh_filed.proofs.AskingLaws.{asks_none, asks_on, asks_each}
+use Rattle.wh_version.specs.Moved.{IsMoved}
 use Rattle.wh_version.proofs.Among.{told_held}
+use Rattle.wh_version.proofs.MovedLaws.{moved_among}
 use Rattle.wh_table.proofs.MomentRows.{rows_meant}
 use Rattle.wh_table.specs.Table.{table_of, filed_of}
 use Rattle.wh_change.proofs.LoadedLaws.{shown_then, turned_so}
@@ -15,14 +19,29 @@ module _ (g : Over) (c : After-load g) where
       → AllShown (told_of g.D.Disk c.args.fetch.now) (filed_at c.deref.result.now)
   went_shown shown =
       shown_then _ (told_of g.D.Disk c.args.fetch.now) (filed_of c.args.table.now) _ _
-      (told_held _ _ c.in_ok-turnover.ensures.went) c.deref.ensures.value refl shown
+      (told_held _ _ (moved_among c.args.from c.args.to (table_of c.args.table.now).versions (filed_of c.args.table.now)
+      _ c.in_ok-turnover.ensures.went)) c.deref.ensures.value refl shown
+
+  -- each of them moved
+  went_moved : AllByRecursion (IsMoved c.args.from c.args.to (table_of c.args.table.now).versions
+      (filed_of c.args.table.now)) (filed_at c.deref.result.now)
+  went_moved =
+      subst (λ l. AllByRecursion (IsMoved c.args.from c.args.to (table_of c.args.table.now).versions
+      (filed_of c.args.table.now)) (filed_at l)) (sym c.deref.ensures.value) c.in_ok-turnover.ensures.went
 
 module _ (g : Over) (c : After-load-2 g) where
   abbrev came_shown : AllShown (told_of g.D.Disk c.args.fetch.now) (filed_of c.args.table.now)
       → AllShown (told_of g.D.Disk c.load.new.fetch) (filed_at c.deref-2.result.now)
   came_shown shown =
       shown_then _ _ (filed_of c.args.table.now) _ _
-      (told_held _ _ c.in_ok-turnover.ensures.came) c.deref-2.ensures.value c.in_ok-went.ensures.same shown
+      (told_held _ _ (moved_among c.args.from c.args.to (table_of c.args.table.now).versions (filed_of c.args.table.now)
+      _ c.in_ok-turnover.ensures.came)) c.deref-2.ensures.value c.in_ok-went.ensures.same shown
+
+  came_moved : AllByRecursion (IsMoved c.args.from c.args.to (table_of c.args.table.now).versions
+      (filed_of c.args.table.now)) (filed_at c.deref-2.result.now)
+  came_moved =
+      subst (λ l. AllByRecursion (IsMoved c.args.from c.args.to (table_of c.args.table.now).versions
+      (filed_of c.args.table.now)) (filed_at l)) (sym c.deref-2.ensures.value) c.in_ok-turnover.ensures.came
 
 pub returns-in_err-went-clause-sound : goal.returns-in_err-went-clause-sound
 returns-in_err-went-clause-sound g c shown =
@@ -57,3 +76,23 @@ returns-clause-sound g c shown =
 
 pub returns-clause-goes : goal.returns-clause-goes
 returns-clause-goes g c = goes_on g.D.Disk _ _ _ c.in_ok-went.ensures.goes c.in_ok-came.ensures.goes
+
+pub returns-in_err-turnover-clause-asks : goal.returns-in_err-turnover-clause-asks
+returns-in_err-turnover-clause-asks g c = asks_none _ _
+
+pub returns-in_err-went-clause-asks : goal.returns-in_err-went-clause-asks
+returns-in_err-went-clause-asks g c =
+    asks_each _ _ _ _ (went_moved g (goal.at.returns-in_err-went-clause-asks g c).After-load) c.in_err-went.ensures.asks
+
+pub returns-in_err-came-clause-asks : goal.returns-in_err-came-clause-asks
+returns-in_err-came-clause-asks g c =
+    asks_on _ _ _ _
+    (asks_each _ _ _ _ (went_moved g (goal.at.returns-in_err-came-clause-asks g c).After-load) c.in_ok-went.ensures.asks)
+    (asks_each _ _ _ _ (came_moved g (goal.at.returns-in_err-came-clause-asks g c).After-load-2)
+    c.in_err-came.ensures.asks)
+
+pub returns-clause-asks : goal.returns-clause-asks
+returns-clause-asks g c =
+    asks_on _ _ _ _
+    (asks_each _ _ _ _ (went_moved g (goal.at.returns-clause-asks g c).After-load) c.in_ok-went.ensures.asks)
+    (asks_each _ _ _ _ (came_moved g (goal.at.returns-clause-asks g c).After-load-2) c.in_ok-came.ensures.asks)

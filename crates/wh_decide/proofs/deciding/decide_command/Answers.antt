@@ -1,4 +1,4 @@
-use Rattle.std.proofs.Common.{◌≡◌, ◌<◌, ◌≤◌, Some, None, length, ap, sym, ◌∙◌, arith, rules}
+use Rattle.std.proofs.Common.{◌≡◌, ◌<◌, ◌≤◌, Some, None, length, ap, sym, subst, ◌∙◌, arith, rules}
 use Rattle.wh_machine.specs.Step.{commanded}
 use Rattle.wh_stmt_parse.specs.Read.{read_statement}
 use Rattle.wh_decide.specs.Sight.{machine_in}
@@ -7,6 +7,10 @@ use Rattle.wh_decide.proofs.ReadyLemmas.{nothing_ready}
 use Rattle.wh_decide.proofs.RequestLemmas.{long_request, short_request}
 use Rattle.wh_decide.proofs.CommandLemmas.{command_long, command_unreadable}
 use Rattle.wh_decide.proofs.SpelledLemmas.{text_spells}
+use Rattle.wh_decide.proofs.AskLemmas.{request_unasked}
+use Rattle.wh_decide.specs.Asked.{AsksAsRequested}
+use Rattle.wh_grammar.specs.Spelled.{Request}
+use Rattle.wh_stmt_parse.specs.Request.{request_of}
 use Rattle.wh_decide.proofs.deciding.decide_command.Goals as goal
 
 pub returns-then-bound-text-clause-comes : goal.returns-then-bound-text-clause-comes
@@ -46,3 +50,24 @@ returns-in-Ok-clause-ready g c =
     let within : length c.args.text.now ≤ 65536 = omega (arith, c.bound.ensures) in
     c.decide_tree-decision.ensures.ready c.args.text.now (text_spells c.args.text.now c.in-Ok.statement
     (short_request c.args.text.now (Some c.in-Ok.statement) within c.in-Ok.ensures.reads))
+
+-- ---- what is asked for
+
+pub returns-then-bound-text-clause-asks : goal.returns-then-bound-text-clause-asks
+returns-then-bound-text-clause-asks g c =
+    request_unasked c.args.sight.now.catalog.now (machine_in c.args.sight.now) c.args.sight.now.session
+    (request_of c.args.text.now) _
+
+pub returns-in-Ok-clause-asks : goal.returns-in-Ok-clause-asks
+returns-in-Ok-clause-asks g c =
+    let sight = c.args.sight.now in
+    let within : length c.args.text.now ≤ 65536 = omega (arith, c.bound.ensures) in
+    subst (λ (r : Request). AsksAsRequested sight.catalog.now (machine_in sight) sight.session r
+    c.args.fetch.now.asked.items c.decide_tree-decision.new.fetch.asked.items)
+    (sym (short_request c.args.text.now (Some c.in-Ok.statement) within c.in-Ok.ensures.reads))
+    c.decide_tree-decision.ensures.asks
+
+pub returns-in-Err-SyntaxError-clause-asks : goal.returns-in-Err-SyntaxError-clause-asks
+returns-in-Err-SyntaxError-clause-asks g c =
+    request_unasked c.args.sight.now.catalog.now (machine_in c.args.sight.now) c.args.sight.now.session
+    (request_of c.args.text.now) _

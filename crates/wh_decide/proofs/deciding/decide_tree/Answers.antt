@@ -22,6 +22,9 @@ use Rattle.wh_decide.proofs.OutcomeLemmas.{comes_as, viewed_or}
 use Rattle.wh_decide.proofs.CommandLemmas.{command_of_none, command_bound, command_failing}
 use Rattle.wh_decide.proofs.ReadyLemmas.{nothing_ready}
 use Rattle.wh_decide.proofs.SpelledLemmas.{meant_read}
+use Rattle.wh_decide.proofs.AskLemmas.{bound_unasked}
+use Rattle.wh_decide.specs.Asked.{AsksAsBound}
+use Rattle.wh_machine.specs.Reading.{start_in}
 use Rattle.wh_decide.proofs.deciding.decide_tree.Goals as goal
 
 -- the same objects and roots behind references
@@ -86,3 +89,28 @@ returns-in-Ok-clause-ready g c = λ text is.
 
 pub returns-in-Err-Failing-clause-ready : goal.returns-in-Err-Failing-clause-ready
 returns-in-Err-Failing-clause-ready g c = λ text is. nothing_ready c.args.sight.now
+
+-- ---- what is asked for
+
+pub returns-then-not-is_session-clause-asks : goal.returns-then-not-is_session-clause-asks
+returns-then-not-is_session-clause-asks g c = bound_unasked c.args.sight.now.catalog.now _ _ _
+
+pub returns-in_err-objects-clause-asks : goal.returns-in_err-objects-clause-asks
+returns-in_err-objects-clause-asks g c = bound_unasked c.args.sight.now.catalog.now _ _ _
+
+pub returns-in_err-roots-clause-asks : goal.returns-in_err-roots-clause-asks
+returns-in_err-roots-clause-asks g c = bound_unasked c.args.sight.now.catalog.now _ _ _
+
+pub returns-in-Ok-clause-asks : goal.returns-in-Ok-clause-asks
+returns-in-Ok-clause-asks g c =
+    let sight = c.args.sight.now in
+    let tree = c.args.statement.now in
+    let same = named_as tree c.deref.ensures.value c.deref-2.ensures.value
+    (c.in_ok-objects.ensures (map root_in c.in_ok-roots.roots.items)
+    ∙ c.in_ok-roots.ensures (names_from 1 (state_of sight.catalog.now).objects)) in
+    subst (λ (b : Bound). AsksAsBound sight.catalog.now (start_in (machine_in sight) sight.session) b
+    c.args.fetch.now.asked.items c.decide_bound.new.fetch.asked.items)
+    (c.in-Ok.ensures.bound ∙ ap (λ (m : Meant Bound). m.value) same) c.decide_bound.ensures.asks
+
+pub returns-in-Err-Failing-clause-asks : goal.returns-in-Err-Failing-clause-asks
+returns-in-Err-Failing-clause-asks g c = bound_unasked c.args.sight.now.catalog.now _ _ _

@@ -11,6 +11,7 @@ use Rattle.wh_decide.proofs.OutcomeLemmas.{declines, answers}
 use Rattle.wh_decide.proofs.ReadingLemmas.{found_read}
 use Rattle.wh_decide.proofs.ReadyLemmas.{nothing_ready}
 use Rattle.wh_decide.proofs.QueryLemmas.{is_unread, is_shown, is_undefined}
+use Rattle.wh_decide.proofs.AskLemmas.{none_asked}
 use Rattle.wh_decide.proofs.queries.select.Goals as goal
 
 pub returns-in-Some-clause-comes : goal.returns-in-Some-clause-comes
@@ -52,3 +53,9 @@ returns-in_default-2-clause-ready g c = nothing_ready c.args.sight.now
 
 pub returns-clause-ready : goal.returns-clause-ready
 returns-clause-ready g c = nothing_ready c.args.sight.now
+
+pub returns-in_err-why-clause-asks : goal.returns-in_err-why-clause-asks
+returns-in_err-why-clause-asks g c = none_asked c.args.sight.now.catalog.now _ _ _
+
+pub returns-in-Some-clause-asks : goal.returns-in-Some-clause-asks
+returns-in-Some-clause-asks g c = none_asked c.args.sight.now.catalog.now _ _ _

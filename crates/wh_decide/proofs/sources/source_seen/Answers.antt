@@ -9,6 +9,7 @@ use Rattle.wh_catalog.specs.Stream.{stream_of}
 use Rattle.wh_decide.specs.Sight.{machine_in, objects_seen}
 use Rattle.wh_txn.proofs.ShownLemmas.{standing_bag}
 use Rattle.wh_decide.proofs.SourceLemmas.{stream_rows, table_rows}
+use Rattle.wh_decide.proofs.AskLemmas.{moved_from, not_standard}
 use Rattle.wh_decide.proofs.sources.source_seen.Goals as goal
 
 pub returns-in-Some-clause-seen : goal.returns-in-Some-clause-seen
@@ -28,3 +29,22 @@ returns-clause-seen g c = λ shown.
     (c.in_ok-table.ensures.stands shown sight.stamp)
     ∙ sym (table_rows sight.catalog.now m.state (transaction_in m.sessions sight.session)
     (start_in m sight.session) c.args.id refl (sym c.in_default.ensures))
+
+-- the stream of the id
+pub returns-in-Some-clause-asks : goal.returns-in-Some-clause-asks
+returns-in-Some-clause-asks g c =
+    moved_from c.args.sight.now.catalog.now c.args.id (stream_of c.in-Some.stream.now) _ _ _ _ c.start.ensures
+    (sym c.in-Some.ensures) c.in_ok-rows.ensures.asks
+
+pub returns-in_err-rows-clause-asks : goal.returns-in_err-rows-clause-asks
+returns-in_err-rows-clause-asks g c =
+    moved_from c.args.sight.now.catalog.now c.args.id (stream_of c.in-Some.stream.now) _ _ _ _ c.start.ensures
+    (sym c.in-Some.ensures) c.in_err-rows.ensures.asks
+
+-- no stream, and so no standard one
+pub returns-in_err-table-clause-asks : goal.returns-in_err-table-clause-asks
+returns-in_err-table-clause-asks g c =
+    not_standard c.args.sight.now.catalog.now _ c.args.id _ _ (sym c.in_default.ensures)
+
+pub returns-clause-asks : goal.returns-clause-asks
+returns-clause-asks g c = not_standard c.args.sight.now.catalog.now _ c.args.id _ _ (sym c.in_default.ensures)

@@ -12,6 +12,7 @@ use Rattle.wh_txn.proofs.SeenLemmas.{catalog_stream}
 use Rattle.wh_decide.proofs.OutcomeLemmas.{answers}
 use Rattle.wh_decide.proofs.ReadyLemmas.{nothing_ready}
 use Rattle.wh_decide.proofs.StreamLemmas.{none_asked, asked_refused, asked_told}
+use Rattle.wh_decide.proofs.AskLemmas as asks
 use Rattle.wh_decide.proofs.streams.has_data.Given.{Over}
 use Rattle.wh_decide.proofs.streams.has_data.Goals.{After-stream}
 use Rattle.wh_decide.proofs.streams.has_data.Goals as goal
@@ -58,3 +59,26 @@ returns-in-Some-2-clause-ready g c = nothing_ready c.args.sight.now
 
 pub returns-clause-ready : goal.returns-clause-ready
 returns-clause-ready g c = nothing_ready c.args.sight.now
+
+-- ---- what is asked for
+
+pub returns-in_default-clause-asks : goal.returns-in_default-clause-asks
+returns-in_default-clause-asks g c = asks.none_asked c.args.sight.now.catalog.now _ _ _
+
+pub returns-in_err-why-clause-asks : goal.returns-in_err-why-clause-asks
+returns-in_err-why-clause-asks g c = asks.none_asked c.args.sight.now.catalog.now _ _ _
+
+pub returns-in-Some-2-clause-asks : goal.returns-in-Some-2-clause-asks
+returns-in-Some-2-clause-asks g c = asks.none_asked c.args.sight.now.catalog.now _ _ _
+
+pub returns-in_err-has_rows-clause-asks : goal.returns-in_err-has_rows-clause-asks
+returns-in_err-has_rows-clause-asks g c =
+    let sight = c.args.sight.now in
+    asks.moved_from sight.catalog.now c.args.id (stream_of c.in-Some.stream.now) _ _ _ _ c.start.ensures
+    (sym c.stream.ensures ∙ ap (option_map (λ s. stream_of s.now)) c.in-Some.is) c.in_err-has_rows.ensures.asks
+
+pub returns-clause-asks : goal.returns-clause-asks
+returns-clause-asks g c =
+    let sight = c.args.sight.now in
+    asks.moved_from sight.catalog.now c.args.id (stream_of c.in-Some.stream.now) _ _ _ _ c.start.ensures
+    (sym c.stream.ensures ∙ ap (option_map (λ s. stream_of s.now)) c.in-Some.is) c.in_ok-has_rows.ensures.asks

@@ -1,7 +1,8 @@
-use Rattle.std.proofs.Common.{rules, ◌∙◌}
+use Rattle.std.proofs.Common.{rules, ◌∙◌, Contains}
 use Rattle.wh_filed.specs.Filed.{filed_at}
 use Rattle.wh_filed.specs.Fetching.{IsShownBy, AllShownBy, IsCovered}
 use Rattle.wh_filed.proofs.FetchingLaws.{at_place, shown_now, still_covered}
+use Rattle.wh_filed.proofs.AskingLaws.{asks_none, asks_on, asks_one, one_of}
 use Rattle.wh_filed.proofs.LoadingLemmas.{loaded_more}
 use Rattle.wh_filed.proofs.loading.fetch_all.Given.{Over}
 use Rattle.wh_filed.proofs.loading.fetch_all.Goals.{After-fetch_one}
@@ -20,6 +21,21 @@ module _ (g : Over) (c : After-fetch_one g) where
       shown_now (g.F.Fetch.contents c.args.fetch.now) (g.F.Fetch.contents c.loop-one.fetch) c.loop-one.invariant.same
       c.args.filed.now c.loop-one.one-index c.one-item.result c.loop-one-test.true c.one-item.is
 
+  -- the one at the place is one of them
+  named : Contains (filed_at c.args.filed.now) c.one-item.result.now
+  named = one_of c.args.filed.now c.loop-one.one-index c.one-item.result c.loop-one-test.true c.one-item.is
+
+pub loop-one-init : goal.loop-one-init
+loop-one-init g c = record {
+  covered = c.requires;
+  loaded = search rules;
+  sound = search rules;
+  asks = asks_none _ _;
+  same = search rules;
+  goes = g.met.F.Fetch.stays_so _;
+  counted = search rules;
+}
+
 pub loop-one-preserved : goal.loop-one-preserved
 loop-one-preserved g c =
     let at = c.loop-one in
@@ -30,6 +46,9 @@ loop-one-preserved g c =
           c.in_ok-found.found c.loop-one-test.true c.one-item.is c.in_ok-push.ensures.items (at.invariant.loaded all)
           (c.in_ok-found.ensures.loaded (one all));
       sound = λ all. c.in_ok-found.ensures.sound (one all) ∙ at.invariant.sound all;
+      asks = asks_on _ _ _ _ at.invariant.asks
+          (asks_one _ _ c.fetch_one.result _ _ (named g (goal.at.loop-one-preserved g c).After-fetch_one)
+          c.fetch_one.ensures.asks);
       same = search rules;
       goes = g.met.F.Fetch.stays_on _ _ _ at.invariant.goes c.in_ok-found.ensures.goes;
       counted = search rules;
@@ -44,3 +63,15 @@ pub returns-in_err-push-clause-sound : goal.returns-in_err-push-clause-sound
 returns-in_err-push-clause-sound g c all =
     c.in_ok-found.ensures.sound (shown g (goal.at.returns-in_err-push-clause-sound g c).After-fetch_one all)
     ∙ c.loop-one.invariant.sound all
+
+pub returns-in_err-found-clause-asks : goal.returns-in_err-found-clause-asks
+returns-in_err-found-clause-asks g c =
+    asks_on _ _ _ _ c.loop-one.invariant.asks
+    (asks_one _ _ c.fetch_one.result _ _ (named g (goal.at.returns-in_err-found-clause-asks g c).After-fetch_one)
+    c.fetch_one.ensures.asks)
+
+pub returns-in_err-push-clause-asks : goal.returns-in_err-push-clause-asks
+returns-in_err-push-clause-asks g c =
+    asks_on _ _ _ _ c.loop-one.invariant.asks
+    (asks_one _ _ c.fetch_one.result _ _ (named g (goal.at.returns-in_err-push-clause-asks g c).After-fetch_one)
+    c.fetch_one.ensures.asks)

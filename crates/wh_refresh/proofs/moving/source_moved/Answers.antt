@@ -7,7 +7,8 @@ use Rattle.wh_exec.specs.Source.{parts_bag}
 use Rattle.wh_maintenance.specs.Turn.{IsTurn}
 use Rattle.wh_state.specs.Moments.{bag_at}
 use Rattle.wh_version.proofs.Among.{each_held}
-use Rattle.wh_table.specs.Table.{filed_of}
+use Rattle.wh_version.proofs.MovedLaws.{moved_among}
+use Rattle.wh_table.specs.Table.{table_of, filed_of}
 use Rattle.wh_refresh.specs.Objects.{objects_in, filed_at_objects}
 use Rattle.wh_refresh.specs.Sources.{bag_held}
 use Rattle.wh_refresh.proofs.MovingLaws.{turn_alone, turn_none}
@@ -51,10 +52,14 @@ pub returns-clause-came : goal.returns-clause-came
 returns-clause-came c =
     subst (AllByRecursion (Contains (filed_at_objects c.args.objects.now))) (sym c.filed_alone-came-2.ensures.filed)
     (each_held (Contains (filed_at_objects c.args.objects.now)) (filed_at c.in_ok-went.field-0.came.items)
-    (filed_of c.in-Some.table.now) c.in_ok-went.ensures.came c.in-Some.ensures.among)
+    (filed_of c.in-Some.table.now)
+    (moved_among c.args.from c.args.to (table_of c.in-Some.table.now).versions (filed_of c.in-Some.table.now)
+    (filed_at c.in_ok-went.field-0.came.items) c.in_ok-went.ensures.came) c.in-Some.ensures.among)
 
 pub returns-clause-went : goal.returns-clause-went
 returns-clause-went c =
     subst (AllByRecursion (Contains (filed_at_objects c.args.objects.now))) (sym c.filed_alone-went-2.ensures.filed)
     (each_held (Contains (filed_at_objects c.args.objects.now)) (filed_at c.in_ok-went.field-0.went.items)
-    (filed_of c.in-Some.table.now) c.in_ok-went.ensures.went c.in-Some.ensures.among)
+    (filed_of c.in-Some.table.now)
+    (moved_among c.args.from c.args.to (table_of c.in-Some.table.now).versions (filed_of c.in-Some.table.now)
+    (filed_at c.in_ok-went.field-0.went.items) c.in_ok-went.ensures.went) c.in-Some.ensures.among)

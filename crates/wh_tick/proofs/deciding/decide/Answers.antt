@@ -10,6 +10,7 @@ use Rattle.wh_txn.specs.View.{sessions_of}
 use Rattle.wh_decide.specs.declared.event.Event.{Event}
 use Rattle.wh_decide.specs.Event.{event_of}
 use Rattle.wh_decide.specs.Decision.{Decides, machine_at}
+use Rattle.wh_decide.specs.Asked.{AsksAsRequested, AsksInEvent}
 use Rattle.wh_tick.proofs.deciding.decide.Goals as goal
 
 pub returns-in-Command-clause-decided : goal.returns-in-Command-clause-decided
@@ -53,3 +54,19 @@ returns-in-Tick-clause-timed g c =
 pub returns-in-Tick-clause-read : goal.returns-in-Tick-clause-read
 returns-in-Tick-clause-read g c =
     IfOk-weaker c.decide_tick.result _ _ (λ _ ready. ready.read) c.decide_tick.ensures.ready
+
+pub returns-in-Command-clause-asks : goal.returns-in-Command-clause-asks
+returns-in-Command-clause-asks g c =
+    let catalog = c.args.catalog.now in
+    let m = machine_at (stamped (state_of catalog) c.args.stamp) (sessions_of c.args.sessions.now) in
+    subst (λ (e : Event). AsksInEvent catalog m (event_of e) c.args.fetch.now.asked.items
+    c.decide_command.new.fetch.asked.items) (sym c.in-Command.is)
+    (subst (λ (t : List ℕ). AsksAsRequested catalog m c.in-Command.session (request_of t) c.args.fetch.now.asked.items
+    c.decide_command.new.fetch.asked.items) c.as_slice.ensures c.decide_command.ensures.asks)
+
+pub returns-in-Tick-clause-asks : goal.returns-in-Tick-clause-asks
+returns-in-Tick-clause-asks g c =
+    let catalog = c.args.catalog.now in
+    let m = machine_at (stamped (state_of catalog) c.args.stamp) (sessions_of c.args.sessions.now) in
+    subst (λ (e : Event). AsksInEvent catalog m (event_of e) c.args.fetch.now.asked.items
+    c.decide_tick.new.fetch.asked.items) (sym c.in-Tick.is) tt

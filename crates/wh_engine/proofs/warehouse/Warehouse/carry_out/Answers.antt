@@ -1,4 +1,4 @@
-use Rattle.std.proofs.Common.{◌≡◌, ◌≤◌, Option, None, refl, sym, ap, subst, ◌∙◌, arith, rules}
+use Rattle.std.proofs.Common.{◌≡◌, ◌≤◌, [], Option, None, refl, sym, ap, subst, ◌∙◌, arith, rules}
 use Rattle.wh_value.specs.Limit.{bound}
 use Rattle.wh_value.specs.declared.limit.Limit.TheVariants as limits
 use Rattle.wh_reply.specs.Reply.{Reply}
@@ -14,7 +14,7 @@ use Rattle.wh_catalog.specs.declared.catalog.Catalog.{Catalog}
 use Rattle.wh_decide.specs.Event.{event_of}
 use Rattle.wh_decide.specs.Decision.{commit_in, CanSettle}
 use Rattle.wh_txn.specs.View.{sessions_of}
-use Rattle.wh_engine.specs.Warehouse.{ShowsAll, IsOnlyRead, machine_of, made_in, led_to}
+use Rattle.wh_engine.specs.Warehouse.{ShowsAll, IsOnlyRead, fetched_of, machine_of, decided_at, made_in, led_to}
 use Rattle.wh_engine.specs.declared.fault.Halt.{Halt}
 use Rattle.wh_engine.specs.Answers.{CarriesOut}
 use Rattle.wh_engine.specs.Halts.{Halted, HaltedSome}
@@ -24,6 +24,8 @@ use Rattle.wh_engine.proofs.StopLemmas.{leaves_still, leaves_behind, leaves_show
 use Rattle.wh_engine.proofs.HaltLemmas.{reopens, halted_behind, passed_on}
 use Rattle.wh_engine.proofs.CarryLemmas.{carries_nothing, carries_behind, answered_behind}
 use Rattle.wh_engine.proofs.DecidedLemmas.{Comes, turns, unstamped}
+use Rattle.wh_decide.specs.Asked.{AsksInEvent}
+use Rattle.wh_engine.proofs.AskedLemmas.{unasked, asked_behind, asked_still}
 use Rattle.wh_engine.proofs.warehouse.Warehouse.carry_out.Given.{Over}
 use Rattle.wh_engine.proofs.warehouse.Warehouse.carry_out.Goals.{After-begin, After-decide, After-settle}
 use Rattle.wh_engine.proofs.warehouse.Warehouse.carry_out.Goals as goal
@@ -57,7 +59,15 @@ pub returns-in-Some-clause-any_moment : goal.returns-in-Some-clause-any_moment
 returns-in-Some-clause-any_moment g c = λ sound.
     begun_leaves g (goal.at.returns-in-Some-clause-any_moment g c).After-begin
 
+pub returns-in-Some-clause-asks : goal.returns-in-Some-clause-asks
+returns-in-Some-clause-asks g c =
+    unasked c.args.self.now c.begin.new.self (event_of c.args.event.now) c.begin.ensures.begun
+
 -- ---- no stamp is left
+
+pub returns-then-bound-stamp-clause-asks : goal.returns-then-bound-stamp-clause-asks
+returns-then-bound-stamp-clause-asks g c =
+    unasked c.args.self.now c.begin.new.self (event_of c.args.event.now) c.begin.ensures.begun
 
 pub returns-then-bound-stamp-clause-answered : goal.returns-then-bound-stamp-clause-answered
 returns-then-bound-stamp-clause-answered g c = λ shown sound.
@@ -116,6 +126,24 @@ module _ (g : Over) (c : After-decide g) where
   unread commit halt halted =
       halted_behind c.args.self.now c.begin.new.self c.decide.new.self commit halt c.begin.ensures.same
       (omega (arith, ap g.D.Disk.faults c.begin.ensures.disk)) halted
+
+  -- no other partition is asked for than the event's
+  asked : AsksInEvent c.args.self.now.catalog (decided_at c.args.self.now (event_of c.args.event.now))
+      (event_of c.args.event.now) [] (fetched_of c.decide.new.self)
+  asked =
+      let stamp : c.max-stamp.result ≡ stamp_of (state_of c.args.self.now.catalog) (reading_of (event_of c.args.event.now)) =
+      omega (
+        arith,
+        c.reading.ensures,
+        c.last.ensures.last,
+        ap (λ (catalog : Catalog). (state_of catalog).last) c.begin.ensures.same.catalog,
+        c.max-stamp.ensures,
+      ) in
+      asked_behind c.args.self.now c.begin.new.self c.decide.new.self (event_of c.args.event.now) c.max-stamp.result read
+      c.begin.ensures.begun stamp c.decide.ensures.asks
+
+pub returns-in_err-decision-clause-asks : goal.returns-in_err-decision-clause-asks
+returns-in_err-decision-clause-asks g c = asked g (goal.at.returns-in_err-decision-clause-asks g c).After-decide
 
 pub returns-in_err-decision-clause-halted : goal.returns-in_err-decision-clause-halted
 returns-in_err-decision-clause-halted g c = λ shown sound.
@@ -257,3 +285,13 @@ returns-clause-carried g c =
 
 pub returns-clause-any_moment : goal.returns-clause-any_moment
 returns-clause-any_moment g c = any_moment g (goal.at.returns-clause-any_moment g c).After-settle
+
+pub returns-in_err-settle-clause-asks : goal.returns-in_err-settle-clause-asks
+returns-in_err-settle-clause-asks g c =
+    asked_still c.args.self.now c.decide.new.self c.settle.new.self (event_of c.args.event.now) c.settle.ensures.unread
+    (asked g (goal.at.returns-in_err-settle-clause-asks g c).After-decide)
+
+pub returns-clause-asks : goal.returns-clause-asks
+returns-clause-asks g c =
+    asked_still c.args.self.now c.decide.new.self c.settle.new.self (event_of c.args.event.now) c.settle.ensures.unread
+    (asked g (goal.at.returns-clause-asks g c).After-decide)

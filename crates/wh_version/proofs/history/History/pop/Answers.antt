@@ -10,6 +10,7 @@ use Rattle.wh_version.specs.Lists.{behind}
 use Rattle.wh_version.proofs.Starts.{pop_behind}
 use Rattle.wh_version.specs.History.{versions_of, nexts_of, next_in}
 use Rattle.wh_version.proofs.FiledAgain.{filed_less}
+use Rattle.wh_version.proofs.Going.{gone_again}
 use Rattle.wh_version.proofs.Last.{next_last}
 use Rattle.wh_version.proofs.Popped.{versions_left, versions_shortened, nexts_shortened, numbered_less, count_less}
 use Rattle.wh_version.proofs.Popped.{gone_less, take_exactly}
@@ -84,6 +85,8 @@ invariant_of-self c =
       gone = (λ i. list_all (is_gone_by (places i)) (whole at i))
           ∙ gone_less (last at) (kept at) partitions (omega arith)
           (subst (λ n. IsTrue (list_all (is_gone_by n) (kept at))) (sym (count at)) h.gone);
+      went = ap (λ ks. list_all (is_gone_by h.last_going) ks) (whole at)
+          ∙ gone_again h.last_going (last at) partitions (kept at) h.went;
     }
 
 pub returns-clause-versions : goal.returns-clause-versions

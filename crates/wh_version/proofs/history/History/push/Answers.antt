@@ -9,11 +9,12 @@ use Rattle.wh_version.specs.declared.lasting.Lasting.{Lasting}
 use Rattle.wh_version.specs.declared.mark.VersionMark.{VersionMark}
 use Rattle.wh_filed.specs.Filed.{partitions_filed}
 use Rattle.wh_version.specs.Lasting.{filed_in, partitions_in, numbered_from, count_to, is_gone_by, parted, fresh}
-use Rattle.wh_version.specs.Lasting.{standing_at, version_by, versions_by}
+use Rattle.wh_version.specs.Lasting.{going_with, standing_at, version_by, versions_by}
 use Rattle.wh_version.specs.Lists.{behind}
 use Rattle.wh_version.specs.History.{versions_of, nexts_of, marks_of, standing_in, next_in}
 use Rattle.wh_version.proofs.Starts.{push_behind}
 use Rattle.wh_version.proofs.Last.{next_last, counts_all, standing_now, standing_last}
+use Rattle.wh_version.proofs.Going.{still_gone_with}
 use Rattle.wh_version.proofs.Parted.{all_later, parted_gone, length-parted}
 use Rattle.wh_version.proofs.Pushed.{versions_pushed, more_filed, more_partitions, still_numbered}
 use Rattle.wh_version.proofs.Pushed.{still_count, still_gone}
@@ -89,6 +90,9 @@ invariant_of-self-2 c =
       gone = (λ i. list_all (is_gone_by (places i)) (whole at i))
           ∙ still_gone (last at) (parted (last at) removed (kept at)) added
           (parted_gone (last at) removed (kept at) (gone at));
+      went = (λ i. list_all (is_gone_by (c.going_with-self.ensures i)) (whole at i))
+          ∙ still_gone (going_with h.last_going (last at) removed) (parted (last at) removed (kept at)) added
+          (still_gone_with h.last_going (last at) removed (kept at) h.went (gone at));
     }
 
 pub returns-clause-versions : goal.returns-clause-versions

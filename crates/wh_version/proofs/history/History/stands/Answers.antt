@@ -16,9 +16,10 @@ returns-then-number-eq0 c =
     let standing = ap (list_any (λ p. nat_eq number p.number)) (standing_now h) in
     let none : list_any (λ p. nat_eq number p.number) (partitions_in (filter is_standing h.kept.items)) ≡ false =
     elim c.then-number-eq0.branch [
-      | then-number-eq0-via-then-number-eq0 w ↦ none_there number 1 h.kept.items h.numbers (inl (omega arith))
+      | then-number-eq0-via-then-number-eq0 w ↦
+          none_there is_standing number 1 h.kept.items h.numbers (inl (omega arith))
       | then-number-eq0-via-else-number-eq0+then-len-number w ↦
-          none_there number 1 h.kept.items h.numbers (inr (omega (arith, w.len.ensures)))
+          none_there is_standing number 1 h.kept.items h.numbers (inr (omega (arith, w.len.ensures)))
     ] in
     sym (standing ∙ none)
 
@@ -29,7 +30,8 @@ returns c =
     let sized = h.kept.ok.0 in
     let standing = ap (list_any (λ p. nat_eq number p.number)) (standing_now h) in
     let k = c.index-one.result.now in
-    let there = one_there 1 (number - 1) h.kept.items k h.numbers (omega (arith, c.len.ensures)) c.index-one.ensures in
+    let there = one_there is_standing 1 (number - 1) h.kept.items k h.numbers (omega (arith, c.len.ensures))
+    c.index-one.ensures in
     let same : 1 + (number - 1) ≡ number = omega arith in
     sym (standing ∙ ap (λ n. list_any (λ p. nat_eq n p.number) (partitions_in (filter is_standing h.kept.items)))
     (sym same) ∙ there ∙ sym c.stands.ensures)

@@ -1,0 +1,19 @@
+//! Kept groups: what a Group's calls have added up, moved by the rows that come and go.
+#![tactic(auto)]
+
+mod groups;
+mod moved;
+mod moving;
+mod settling;
+mod showing;
+mod standing;
+mod tally;
+mod touched;
+mod updating;
+#[cfg(test)]
+mod worked;
+
+pub use groups::{Entry, Groups};
+pub use settling::Updated;
+pub use standing::{Standing, Total};
+pub use updating::updated;

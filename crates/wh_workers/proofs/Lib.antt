@@ -1,0 +1,3 @@
+pub mod CutLaws
+pub mod JoinedLaws
+pub mod Answered
