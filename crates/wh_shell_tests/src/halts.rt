@@ -127,7 +127,7 @@ fn names(rt: &impl Abort, alloc: Global, asked: &[(u32, u64)]) -> Vec<PartId> {
 
 // A table of 1,500 rows: 1,000 in its first partition, and 500 in the second.
 fn filled(rt: &(impl Abort + Threads + Sync), alloc: Global) -> Warehouse<MemDisk> {
-    let mut warehouse = opened(rt, alloc, disk_of(rt, alloc, b"", 1 << 16, &[]));
+    let mut warehouse = opened(rt, alloc, disk_of(rt, alloc, b"", 1 << 20, &[]));
     let create = b"CREATE TABLE T(K NUMBER, V NUMBER)";
     assert_answer(rt, alloc, &mut warehouse, create, b"CREATED TABLE T\n");
     let insert = inserting(rt, alloc, 1500);
