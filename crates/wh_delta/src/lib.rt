@@ -6,6 +6,7 @@ mod carrying;
 mod change;
 mod group;
 mod join;
+mod kept;
 mod linear;
 mod moved;
 mod moves;
@@ -16,4 +17,4 @@ mod staying;
 mod worked;
 
 pub use change::{delta, linear_delta};
-pub use reading::linear as is_linear;
+pub use kept::{KeptChange, kept_delta, kept_delta_between};

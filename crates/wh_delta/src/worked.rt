@@ -1,4 +1,4 @@
-use crate::delta;
+use crate::{KeptChange, delta, kept_delta_between};
 use sqlite_items::{Boxed, Items};
 use std::alloc::Global;
 use std::process::Abort;
@@ -6,6 +6,7 @@ use wh_algebra::{Call, Query};
 use wh_bag::{Bag, Signed};
 use wh_exec::Source;
 use wh_fetch::MemFetch;
+use wh_group::Groups;
 use wh_scalar::Scalar;
 use wh_value::{Comparison, Row, Value};
 
@@ -123,22 +124,26 @@ fn pairs_that_stand_on_neither_side_are_not_made(rt: HostRuntime) {
     );
 }
 
-#[test]
-fn a_group_without_rows_goes(rt: HostRuntime) {
-    let alloc = rt.alloc();
+// SUM by key.
+fn sums(rt: &impl Abort, alloc: Global) -> Query {
     let mut calls = Items::new(alloc);
     calls
         .push(Call::Sum(Scalar::Column(1)))
-        .expect(&rt, "memory");
-    let query = Query::Group(
-        scan(&rt, alloc, 0),
-        items(&rt, alloc, Scalar::Column(0)),
+        .expect(rt, "memory");
+    Query::Group(
+        scan(rt, alloc, 0),
+        items(rt, alloc, Scalar::Column(0)),
         calls,
-    );
+    )
+}
+
+#[test]
+fn a_group_without_rows_goes(rt: HostRuntime) {
+    let alloc = rt.alloc();
     let found = changed(
         &rt,
         alloc,
-        &query,
+        &sums(&rt, alloc),
         [
             &[&[1, 5], &[2, 1], &[3, 4]],
             &[],
@@ -151,4 +156,41 @@ fn a_group_without_rows_goes(rt: HostRuntime) {
     assert_eq!(rt; found.minus.count(&row_of(&rt, alloc, &[2, 1])), 1);
     assert_eq!(rt; total(&found.plus), 1);
     assert_eq!(rt; total(&found.minus), 2);
+}
+
+// The net change of sums whose groups are kept; the groups are those afterwards.
+fn kept(
+    rt: &impl Abort,
+    alloc: Global,
+    groups: &mut Groups,
+    old: &[&[i64]],
+    new: &[&[i64]],
+) -> Signed {
+    let old = rows_of(rt, alloc, old);
+    let new = rows_of(rt, alloc, new);
+    let old = [Source::Rows(&old)];
+    let new = [Source::Rows(&new)];
+    let query = sums(rt, alloc);
+    let mut fetch = MemFetch::new(alloc, Vec::new(alloc)).expect(rt, "memory");
+    let found = kept_delta_between(alloc, &query, groups, &old, &new, &mut fetch);
+    let KeptChange { entries, rows } = found
+        .map_err(|_| "no change")
+        .expect(rt, "a change")
+        .expect(rt, "rows");
+    groups.set_all(alloc, entries).expect(rt, "memory");
+    rows
+}
+
+#[test]
+fn a_kept_group_comes_and_one_goes(rt: HostRuntime) {
+    let alloc = rt.alloc();
+    let mut groups = Groups::new(alloc);
+    let rows: &[&[i64]] = &[&[1, 5], &[2, 1]];
+    let found = kept(&rt, alloc, &mut groups, &[], rows);
+    assert_eq!(rt; total(&found.plus), 2);
+    let found = kept(&rt, alloc, &mut groups, rows, &[&[1, 5], &[3, 4]]);
+    assert_eq!(rt; found.plus.count(&row_of(&rt, alloc, &[3, 4])), 1);
+    assert_eq!(rt; found.minus.count(&row_of(&rt, alloc, &[2, 1])), 1);
+    assert_eq!(rt; total(&found.plus), 1);
+    assert_eq!(rt; total(&found.minus), 1);
 }
