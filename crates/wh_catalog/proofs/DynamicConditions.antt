@@ -2,8 +2,10 @@
 use Rattle.std.proofs.Common.{◌≡◌, ℕ, ◌∙◌, Bool, true, false, List, [], ◌∷◌, map, Option, Some, None}
 use Rattle.std.proofs.Common.{refl, ap, sym}
 use Rattle.std.specs.Bool.{Decides}
-use Rattle.std.specs.Prelude.{not, ◌||◌, is_some, bytes_eq, nat_eq}
+use Rattle.std.specs.Prelude.{not, ◌||◌, is_some, bytes_eq, nat_eq, IsSomeAnd}
+use Rattle.std.specs.FinMap.{get}
 use Rattle.std.specs.List.{AllByRecursion}
+use Rattle.std.specs.Option.{option_map_or}
 use Rattle.std.proofs.lemmas.Bool.Decides.{Decides-and, Decides-or, Decides-eqb, Decides-like}
 use Rattle.std.proofs.lemmas.Slice.Eq.{bytes_eq-Decides}
 use Rattle.wh_value.specs.Column.{Column, ColumnType, NumberType, VarcharType, BooleanType}
@@ -13,12 +15,16 @@ use Rattle.wh_naming.specs.Findings.{Failing, first_failing}
 use Rattle.wh_naming.specs.Select.{BoundQuery, column_of}
 use Rattle.wh_naming.specs.Typing.{same_type}
 use Rattle.wh_state.specs.State.{at_id}
+use Rattle.wh_maintenance.specs.Standing.{Standing, Groups}
+use Rattle.wh_maintenance.specs.Entries.{GroupEntry}
 use Rattle.wh_state.specs.Dynamic.{Source, DynamicQuery, DynamicState, Dynamic, most_failed_refreshes}
+use Rattle.wh_state.specs.Dynamic.{Kept, GroupsChange}
 use Rattle.wh_state.specs.Bound.{IsLiveSource, HasOneId, Binds, but_taken, query_bound}
 use Rattle.wh_state.specs.Stored.{StoredObject}
-use Rattle.wh_state.specs.Commit.{DynamicChange, DynamicApplies, IsLag, TakesState}
+use Rattle.wh_state.specs.Commit.{DynamicChange, DynamicApplies, IsLag, TakesState, MaySet, TakesGroups}
 use Rattle.wh_catalog.specs.DynamicConditions.{is_lag, agrees, has_one_id, same_column, same_columns, is_right, binds}
-use Rattle.wh_catalog.specs.DynamicConditions.{dynamic_applies, takes_state, are_sources}
+use Rattle.wh_catalog.specs.DynamicConditions.{dynamic_applies, takes_state, are_sources, may_set, is_taken_by}
+use Rattle.wh_catalog.specs.DynamicConditions.{takes_groups}
 use Rattle.wh_catalog.proofs.Conditions.{Decides-false, Decides-new_object, Decides-columns, Decides-live_table}
 use Rattle.wh_table.proofs.Apart.{Decides-list_all}
 use Rattle.wh_table.proofs.Conditions.{Decides-leb}
@@ -153,3 +159,30 @@ Decides-takes_state d s =
     (λ t. (t.lag, (t.failures, t.moment)))
     (Decides-and _ _ (Decides-lag s.lag)
     (Decides-and _ _ (Decides-leb s.failures most_failed_refreshes) (Decides-leb d.state.moment s.moment)))
+
+-- ---- groups
+
+Decides-may_set : (groups : Groups) (e : GroupEntry) → Decides (may_set groups e) (MaySet groups e)
+Decides-may_set groups e = by e.group (get groups e.key)
+  where
+    by : (group found : Option Standing)
+        → Decides (is_some group || is_some found) (group ≡ None → IsSomeAnd found (λ s. Unit {0}))
+    by (Some g) found = (λ _ none. absurd cc, λ _. refl)
+    by None (Some s) = (λ _ _. tt, λ _. refl)
+    by None None = (λ is. absurd cc, λ stands. absurd (stands refl))
+
+Decides-taken : (c : GroupsChange) (k : Kept) → Decides (is_taken_by c k) (TakesGroups c k)
+Decides-taken c k =
+    Decides-like (is_taken_by c k)
+    (λ h. record { keys = h.0.0; calls = h.0.1; entries = h.1 })
+    (λ t. ((t.keys, t.calls), t.entries))
+    (Decides-and _ _ (Decides-and _ _ (Decides-eqb c.keys k.keys) (Decides-eqb c.calls k.calls))
+    (Decides-list_all (may_set k.groups) _ (Decides-may_set k.groups) c.entries))
+
+pub Decides-takes_groups : (c : GroupsChange) (d : Dynamic)
+    → Decides (takes_groups c d) (IsSomeAnd d.kept (TakesGroups c))
+Decides-takes_groups c d = by d.kept
+  where
+    by : (kept : Option Kept) → Decides (option_map_or (is_taken_by c) kept false) (IsSomeAnd kept (TakesGroups c))
+    by None = (λ is. absurd cc, λ never. absurd never)
+    by (Some k) = Decides-taken c k

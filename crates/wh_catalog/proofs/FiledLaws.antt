@@ -4,7 +4,7 @@
 --     among_both, among_less, among_more   with others, without those behind, with those that a change adds
 --     object_among, table_among            those of one object, and of its table
 --     table_under                          those of the table of an id
---     set_among                            an object in another's place that has more
+--     set_among, set_same                  an object in another's place that has more, and one that has the same
 --     filed_with                           with an object that has none
 --     steady_filed                         a step that changed none of them
 --     among_steady, among_same             what a call leaves at Ok
@@ -19,6 +19,7 @@ use Rattle.wh_filed.specs.Filed.{Filed, AllShown, AreAmong}
 use Rattle.wh_filed.proofs.ShownLaws.{shown_append, shown_front, shown_behind}
 use Rattle.wh_state.specs.State.{TableKind, StreamKind, TaskKind, DynamicKind, Stream, on_stream, on_task, on_dynamic}
 use Rattle.wh_state.specs.State.{at_id, put_at, changed_at, with_offset, live_count}
+use Rattle.wh_maintenance.specs.Entries.{GroupEntry}
 use Rattle.wh_state.specs.Task.{Task, with_state}
 use Rattle.wh_state.specs.Dynamic.{Dynamic, with_dynamic_state}
 use Rattle.wh_state.proofs.IdLaws.{map_changed, with_same}
@@ -31,12 +32,13 @@ use Rattle.wh_table.specs.Table as tables
 use Rattle.wh_catalog.specs.declared.object.StoredObject.{StoredObject}
 use Rattle.wh_catalog.specs.declared.undo.Step.{Step}
 use Rattle.wh_catalog.specs.declared.undo.Step.TheVariants.{MadeObject, DroppedObject, PushedVersion, SetOffset}
-use Rattle.wh_catalog.specs.declared.undo.Step.TheVariants.{SetTask, SetRun, SetDynamic}
+use Rattle.wh_catalog.specs.declared.undo.Step.TheVariants.{SetTask, SetRun, SetDynamic, SetGroups}
 use Rattle.wh_catalog.specs.Undoable.{KeptKind, KeptObject}
 use Rattle.wh_catalog.specs.Object.{kept_object, filed_in_kind, filed_in_kept, filed_of_objects, IsPlaceOf}
 use Rattle.wh_catalog.specs.Catalog.{filed_in_object}
 use Rattle.wh_catalog.specs.Names.{is_last}
 use Rattle.wh_catalog.specs.Back.{object_put_back, on_task_kept, holding, on_dynamic_kept, alive}
+use Rattle.wh_catalog.specs.Back.{kind_regrouped, object_regrouped}
 use Rattle.wh_catalog.specs.Undo.{step_undone, IsSteady}
 
 -- ---- lists among others
@@ -100,6 +102,14 @@ set_at (x ∷ xs) (suc i) old new more within is same told all =
     (shown_front told (filed_one x) (filed_of_objects xs) before)
     (set_at xs i old new more (omega arith) is same told (shown_append told (filed_of_objects xs) more behind added))
 
+same_at : (xs : List StoredObject) (i : ℕ) (old new : StoredObject) → old ≡ get_or xs i old
+    → filed_one new ≡ filed_one old → filed_of_objects (set xs i new) ≡ filed_of_objects xs
+same_at [] i old new is same = refl
+same_at (x ∷ xs) zero old new is same =
+    ap (λ (l : List Filed). l ++ filed_of_objects xs) (same ∙ ap filed_one is)
+same_at (x ∷ xs) (suc i) old new is same =
+    ap (λ (l : List Filed). filed_one x ++ l) (same_at xs i old new is same)
+
 module _ {xs : List StoredObject} {id place : ℕ} {old : StoredObject} (at : IsPlaceOf id xs place)
     (is : old ≡ get_or xs place old) where
   pub object_among : AreAmong (filed_of_objects (old ∷ [])) (filed_of_objects xs)
@@ -108,6 +118,10 @@ module _ {xs : List StoredObject} {id place : ℕ} {old : StoredObject} (at : Is
   pub set_among : (new : StoredObject) (more : List Filed) → filed_one new ≡ filed_one old ++ more
       → AreAmong (filed_of_objects (set xs place new)) (filed_of_objects xs ++ more)
   set_among new more same = set_at xs place old new more at.within is same
+
+  pub set_same : (new : StoredObject) → filed_one new ≡ filed_one old
+      → filed_of_objects (set xs place new) ≡ filed_of_objects xs
+  set_same new same = same_at xs place old new is same
 
 -- the table of an object
 pub table_among : (found : Option (Bor StoredTable)) (o : StoredObject) (all : List Filed)
@@ -169,6 +183,12 @@ on_dynamics f (StreamKind s) = refl
 on_dynamics f (TaskKind t) = refl
 on_dynamics f (DynamicKind d t) = refl
 
+regrouped : (was : List GroupEntry) (k : KeptKind) → filed_in_kind (kind_regrouped was k) ≡ filed_in_kind k
+regrouped was (TableKind t) = refl
+regrouped was (StreamKind s) = refl
+regrouped was (TaskKind t) = refl
+regrouped was (DynamicKind d t) = refl
+
 pub steady_filed : (step : Step) → IsSteady step → (xs : List KeptObject)
     → filed_in_kept (step_undone step xs) ≡ filed_in_kept xs
 steady_filed MadeObject never xs = absurd never
@@ -188,6 +208,8 @@ steady_filed (SetRun root run) steady xs =
 steady_filed (SetDynamic id state) steady xs =
     changed_same (on_dynamic_kept (with_dynamic_state (dynamics.state_of state)))
     (λ o. on_dynamics (with_dynamic_state (dynamics.state_of state)) o.kind) id xs
+steady_filed (SetGroups id was) steady xs =
+    changed_same (object_regrouped was.items) (λ o. regrouped was.items o.kind) id xs
 
 -- ---- what a call leaves at Ok
 

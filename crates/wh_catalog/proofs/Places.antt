@@ -1,11 +1,12 @@
 -- An object at its place, and another one put there: all else is the same.
 --     at_place, kept, stands    the object of an id, as it is kept, and what the file says of it
 --     changed, kept_changed     what is put there is what was there, changed
---     same_kept                 what is put there stands for the same
+--     same_kept, same_stored    what is put there stands for the same
 --     put_back                  a change that leads back to what was there
 use Rattle.std.proofs.Common.{◌≡◌, ℕ, zero, suc, List, [], ◌∷◌, map, length, set, get_or, Some, option_map}
 use Rattle.std.proofs.Common.{refl, sym, ap, ◌∙◌, arith}
 use Rattle.std.proofs.Math.Seq.{map-set_same}
+use Rattle.std.proofs.Math.ListN.{get_or-map}
 use Rattle.std.proofs.lemmas.List.{map-set, length-set, set-get_or, get_or-set_same}
 use Rattle.std.proofs.lemmas.Option.{slice_get_read}
 use Rattle.wh_state.specs.State.{at_id, with_id, put_at, changed_at}
@@ -60,6 +61,13 @@ module _ {xs : List StoredObject} {id place : ℕ} {old : StoredObject} (at : Is
 
     pub same_kept : kept_object new ≡ kept_object old → kept_objects (set xs place new) ≡ kept_objects xs
     same_kept same = map-set_same kept_object xs place new old (same ∙ ap kept_object is)
+
+    pub same_stored : object_in (kept_object new) ≡ object_in (kept_object old)
+        → stored_objects (set xs place new) ≡ stored_objects xs
+    same_stored same =
+        ap (map object_in) (map-set kept_object xs place new)
+        ∙ map-set_same object_in (kept_objects xs) place (kept_object new) (kept_object old)
+        (same ∙ ap object_in (ap kept_object is ∙ sym (get_or-map kept_object xs place old)))
 
 module _ {xs : List StoredObject} {id place : ℕ} {old : StoredObject} (at : IsPlaceOf id xs place)
     (is : old ≡ get_or xs place old) (new : StoredObject) where

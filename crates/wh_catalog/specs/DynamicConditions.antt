@@ -6,9 +6,12 @@
 --     binds                whether a query binds to these columns
 --     dynamic_applies      whether a new dynamic table applies
 --     takes_state          whether a dynamic table that stands for a moment takes a state
+--     takes_groups         whether a dynamic table takes a change of its groups
 use Rattle.std.specs.Prelude.{ℕ, Bool, true, false, not, ◌&&◌, ◌||◌, List, [], ◌∷◌, map, is_some, nat_eq, nat_le}
 use Rattle.std.specs.Prelude.{bytes_eq}
+use Rattle.std.specs.FinMap.{get}
 use Rattle.std.specs.List.{list_all}
+use Rattle.std.specs.Option.{option_map_or}
 use Rattle.wh_value.specs.Column.{Column}
 use Rattle.wh_value.specs.Limit.{bound}
 use Rattle.wh_value.specs.declared.limit.Limit.TheVariants as limits
@@ -16,7 +19,10 @@ use Rattle.wh_naming.specs.Findings.{first_failing}
 use Rattle.wh_naming.specs.Select.{BoundQuery, column_of}
 use Rattle.wh_naming.specs.Typing.{same_type}
 use Rattle.wh_state.specs.State.{at_id}
+use Rattle.wh_maintenance.specs.Standing.{Groups}
+use Rattle.wh_maintenance.specs.Entries.{GroupEntry}
 use Rattle.wh_state.specs.Dynamic.{Source, DynamicQuery, DynamicState, most_failed_refreshes}
+use Rattle.wh_state.specs.Dynamic.{Dynamic, Kept, GroupsChange}
 use Rattle.wh_state.specs.Bound.{but_taken, query_bound}
 use Rattle.wh_state.specs.Stored.{StoredObject}
 use Rattle.wh_state.specs.Commit.{DynamicChange}
@@ -67,3 +73,17 @@ dynamic_applies objects c = is_formed objects c && binds objects c.query c.colum
 
 abbrev pub takes_state : ℕ → DynamicState → Bool
 takes_state moment s = is_lag s.lag && (nat_le s.failures most_failed_refreshes && nat_le moment s.moment)
+
+-- ---- groups
+
+abbrev pub has_form : GroupsChange → Kept → Bool
+has_form c k = nat_eq c.keys k.keys && nat_eq c.calls k.calls
+
+abbrev pub may_set : Groups → GroupEntry → Bool
+may_set groups e = is_some e.group || is_some (get groups e.key)
+
+abbrev pub is_taken_by : GroupsChange → Kept → Bool
+is_taken_by c k = has_form c k && list_all (may_set k.groups) c.entries
+
+abbrev pub takes_groups : GroupsChange → Dynamic → Bool
+takes_groups c d = option_map_or (is_taken_by c) d.kept false

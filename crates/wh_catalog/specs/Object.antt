@@ -12,18 +12,18 @@ use Rattle.wh_state.specs.Stored as machine
 use Rattle.wh_filed.specs.Filed.{Filed}
 use Rattle.wh_table.specs.Table.{kept_table}
 use Rattle.wh_task.specs.View.{task_of}
-use Rattle.wh_dynamic.specs.View.{dynamic_of}
+use Rattle.wh_dynamic.specs.View.{dynamic_of, slots_in}
 use Rattle.wh_catalog.specs.declared.object.StoredKind.{StoredKind}
 use Rattle.wh_catalog.specs.declared.object.StoredKind.TheVariants.{Table, Stream, Task, Dynamic}
 use Rattle.wh_catalog.specs.declared.object.StoredObject.{StoredObject}
-use Rattle.wh_catalog.specs.Undoable.{KeptKind, KeptObject, kind_in, object_in}
+use Rattle.wh_catalog.specs.Undoable.{alone, KeptKind, KeptObject, kind_in, object_in}
 use Rattle.wh_catalog.specs.Stream.{stream_of}
 
 abbrev pub kept_kind : StoredKind → KeptKind
-kept_kind (Table t) = TableKind (kept_table t)
+kept_kind (Table t) = TableKind (alone (kept_table t))
 kept_kind (Stream s) = StreamKind (stream_of s)
 kept_kind (Task t) = TaskKind (task_of t)
-kept_kind (Dynamic d t) = DynamicKind (dynamic_of d) (kept_table t)
+kept_kind (Dynamic d t) = DynamicKind (dynamic_of d) (record { table = kept_table t; slots = slots_in d })
 
 abbrev pub stored_kind : StoredKind → machine.StoredKind
 stored_kind k = kind_in (kept_kind k)
@@ -44,10 +44,10 @@ abbrev pub live_in : List StoredObject → ℕ
 live_in objects = count_by (λ o. o.is_live) objects
 
 abbrev pub filed_in_kind : KeptKind → List Filed
-filed_in_kind (TableKind t) = t.filed
+filed_in_kind (TableKind p) = p.table.filed
 filed_in_kind (StreamKind s) = []
 filed_in_kind (TaskKind t) = []
-filed_in_kind (DynamicKind d t) = t.filed
+filed_in_kind (DynamicKind d p) = p.table.filed
 
 -- those of dropped objects too
 abbrev pub filed_in_kept : List KeptObject → List Filed

@@ -12,10 +12,11 @@ use Rattle.wh_version.specs.Lists.{but_last}
 use Rattle.wh_catalog.specs.declared.catalog.Catalog.{Catalog}
 use Rattle.wh_catalog.specs.declared.undo.Step.{Step}
 use Rattle.wh_catalog.specs.declared.undo.Step.TheVariants.{MadeObject, DroppedObject, PushedVersion, SetOffset}
-use Rattle.wh_catalog.specs.declared.undo.Step.TheVariants.{SetTask, SetRun, SetDynamic}
+use Rattle.wh_catalog.specs.declared.undo.Step.TheVariants.{SetTask, SetRun, SetDynamic, SetGroups}
 use Rattle.wh_catalog.specs.declared.undo.Undo.{Undo}
 use Rattle.wh_catalog.specs.Undoable.{KeptObject}
 use Rattle.wh_catalog.specs.Back.{object_taken_back, object_put_back, on_task_kept, holding, on_dynamic_kept}
+use Rattle.wh_catalog.specs.Back.{object_regrouped}
 use Rattle.wh_catalog.specs.Back.{lives_again}
 use Rattle.wh_catalog.specs.Catalog.{kept_of}
 
@@ -33,6 +34,7 @@ step_undone (SetTask id state) objects = changed_at objects id (on_task_kept (wi
 step_undone (SetRun root run) objects = changed_at objects root (on_task_kept (holding (run_of run.items)))
 step_undone (SetDynamic id state) objects =
     changed_at objects id (on_dynamic_kept (with_dynamic_state (dynamics.state_of state)))
+step_undone (SetGroups id was) objects = changed_at objects id (object_regrouped was.items)
 
 -- the last step is undone first
 abbrev pub undone : List Step → List KeptObject → List KeptObject

@@ -1,22 +1,25 @@
 //! Queries of dynamic tables, bound over what they are kept with.
 use crate::{Catalog, StoredKind, StoredObject};
 use std::alloc::AllocError;
+use wh_algebra::Query;
 use wh_bind::{bind_query, columns_of};
 use wh_core_bind::BoundQuery;
-use wh_dynamic::{DynamicQuery, NamedSource};
+use wh_dynamic::{DynamicQuery, Kept, NamedSource};
 use wh_expr_bind::Findings;
+use wh_group::grouping_of;
 use wh_naming::{Named, ObjectKind};
 use wh_value::{Column, ColumnType};
 
 impl Catalog {
-    ghost use Rattle.std.specs.Prelude.{◌≡◌, ◌++◌, ◌∷◌, [], map, OnOk, IfOk};
+    ghost use Rattle.std.specs.Prelude.{◌≡◌, ◌++◌, ◌∷◌, [], map, option_map, OnOk, IfOk};
     ghost use Rattle.std.specs.List.{list_all};
     ghost use Rattle.std.specs.Option.{option_map_or};
     ghost use Rattle.wh_value.specs.View.{column_of};
     ghost use Rattle.wh_naming.specs.View.{named_of};
     ghost use Rattle.wh_state.specs.State.{at_id};
-    ghost use Rattle.wh_state.specs.Bound.{named_as, names_among, query_bound};
-    ghost use Rattle.wh_dynamic.specs.View.{query_of, source_of};
+    ghost use Rattle.wh_state.specs.Bound.{named_as, names_among, query_bound, grouping_bound};
+    ghost use Rattle.wh_state.specs.Bound.{kept_first, kept_for};
+    ghost use Rattle.wh_dynamic.specs.View.{query_of, source_of, kept_of};
     ghost use Rattle.wh_catalog.specs.Catalog.{objects_of};
     ghost use Rattle.wh_catalog.specs.Conditions.{is_live_table};
     ghost use Rattle.wh_catalog.specs.DynamicConditions.{are_sources, binds, is_right};
@@ -66,6 +69,33 @@ impl Catalog {
         Ok(is_right)
     }
 
+    /// The groups of a new dynamic table of a query, where they are kept.
+    pub fn kept_for(
+        &self,
+        is_incremental: bool,
+        query: &DynamicQuery,
+    ) -> Result<Option<Kept>, AllocError>
+        ensures { IfOk result (λ kept. option_map kept_of kept
+            ≡ kept_for (objects_of self.now) is_incremental (query_of query.now)) }
+    {
+        if !is_incremental {
+            return Ok(None);
+        }
+        self.kept_of_query(query)
+    }
+
+    #[tactic(auto, unfolding(wh_bind::specs::View::query_reading, wh_core_bind::specs::View::query_in))]
+    fn kept_of_query(&self, query: &DynamicQuery) -> Result<Option<Kept>, AllocError>
+        ensures { IfOk result (λ kept. option_map kept_of kept
+            ≡ option_map kept_first (grouping_bound (objects_of self.now) (query_of query.now))) }
+    {
+        let names = self.names_among(&query.sources)?;
+        let bound = bind_query(self.alloc, &names, 0, query.tree.get())?;
+        let bound = bound.into_inner();
+        let kept = kept_first(self.alloc, &bound.query)?;
+        Ok(kept)
+    }
+
     // The objects that a query names, each under the name that it is kept with.
     fn names_among<'a>(&'a self, sources: &'a [NamedSource]) -> Result<Vec<Named<'a>>, AllocError>
         ensures { IfOk result (λ names. map named_of names.items
@@ -95,7 +125,7 @@ impl Catalog {
     }
 }
 
-ghost use Rattle.std.specs.Prelude.{◌≡◌, not, map, is_some, IfOk};
+ghost use Rattle.std.specs.Prelude.{◌≡◌, not, map, is_some, option_map, IfOk};
 ghost use Rattle.std.specs.List.{list_all};
 ghost use Rattle.wh_value.specs.View.{column_of, type_of};
 ghost use Rattle.wh_naming.specs.Findings.{first_failing};
@@ -103,8 +133,10 @@ ghost use Rattle.wh_naming.specs.Typing.{same_type};
 ghost use Rattle.wh_naming.specs.View.{named_of, kind_of};
 ghost use Rattle.wh_expr_bind.specs.View.{findings_of};
 ghost use Rattle.wh_core_bind.specs.View.{query_in};
-ghost use Rattle.wh_state.specs.Bound.{but_taken, named_as, source_kind};
-ghost use Rattle.wh_dynamic.specs.View.{source_of};
+ghost use Rattle.wh_algebra.specs.View as algebra;
+ghost use Rattle.wh_maintenance.specs.Above.{grouping};
+ghost use Rattle.wh_state.specs.Bound.{but_taken, named_as, source_kind, kept_first};
+ghost use Rattle.wh_dynamic.specs.View.{source_of, kept_of};
 ghost use Rattle.wh_catalog.specs.Undoable.{object_in};
 ghost use Rattle.wh_catalog.specs.Object.{kept_object, stored_kind};
 ghost use Rattle.wh_catalog.specs.DynamicConditions.{agrees, same_column, same_columns, is_right};
@@ -163,6 +195,23 @@ fn is_right(alloc: Global, query: BoundQuery, columns: &[Column]) -> Result<bool
 {
     let made = columns_of(alloc, &query.outputs)?;
     Ok(is_free(query.findings) && !query.is_wide && same_columns(&made, columns))
+}
+
+// The groups of a query as they are kept first, where they may be.
+fn kept_first(alloc: Global, query: &Query) -> Result<Option<Kept>, AllocError>
+    ensures { IfOk result (λ kept. option_map kept_of kept
+        ≡ option_map kept_first (grouping (algebra.query_of query.now))) }
+{
+    let Some(found) = grouping_of(query) else {
+        return Ok(None);
+    };
+    let Ok(keys) = u32::try_from(found.by.len()) else {
+        return Err(AllocError);
+    };
+    let Ok(calls) = u32::try_from(found.calls.len()) else {
+        return Err(AllocError);
+    };
+    Ok(Some(Kept::first(alloc, keys, calls)))
 }
 
 // Whether nothing is found, but for names of columns that come twice.

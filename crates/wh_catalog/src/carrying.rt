@@ -1,6 +1,7 @@
 use crate::consuming::{put_offset_back, set_offset};
 use crate::dropping::{drop_object, revive};
 use crate::dynamics::{put_dynamic_back, set_dynamic};
+use crate::grouping::{put_groups_back, set_groups};
 use crate::naming::{change_id, give_id, last_id};
 use crate::object::place_of;
 use crate::running::{put_run, put_state};
@@ -73,6 +74,9 @@ impl Catalog {
                 self.add_object(id, table)
             }
             ChangeIn::SetsDynamic { id, state } => set_dynamic(&mut self.objects, id, state),
+            ChangeIn::SetsGroups { id, groups } => {
+                set_groups(&mut self.objects, self.alloc, id, groups)
+            }
         }
     }
 
@@ -145,6 +149,7 @@ impl Catalog {
                 put_run(&mut self.objects, root, run);
             }
             Step::SetDynamic { id, state } => put_dynamic_back(&mut self.objects, id, state),
+            Step::SetGroups { id, was } => put_groups_back(&mut self.objects, id, was),
         }
     }
 

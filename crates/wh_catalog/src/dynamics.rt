@@ -42,7 +42,11 @@ impl Catalog {
             return Err(StageFault::NotApplicable);
         }
         let lag = change.lag;
-        let Ok(dynamic) = Dynamic::new(self.alloc, lag, change.is_incremental, change.query) else {
+        let is_incremental = change.is_incremental;
+        let Ok(kept) = self.kept_for(is_incremental, &change.query) else {
+            return Err(StageFault::OutOfMemory);
+        };
+        let Ok(dynamic) = Dynamic::new(self.alloc, lag, is_incremental, kept, change.query) else {
             return Err(StageFault::OutOfMemory);
         };
         let table = StoredTable::empty(self.alloc, change.columns, stamp);

@@ -8,6 +8,7 @@ mod consuming;
 mod creating;
 mod dropping;
 mod dynamics;
+mod grouping;
 mod naming;
 mod object;
 mod pushing;

@@ -27,7 +27,7 @@ impl StoredObject {
     ghost use Rattle.wh_table.specs.Table.{table_of, filed_of};
     ghost use Rattle.wh_task.specs.View.{live_of};
     ghost use Rattle.wh_state.specs.State.{table_in, stream_in, task_in, dynamic_in};
-    ghost use Rattle.wh_dynamic.specs.View.{dynamic_of};
+    ghost use Rattle.wh_dynamic.specs.View.{dynamic_of, slots_in};
     ghost use Rattle.wh_state.specs.Objects.{live_task};
     ghost use Rattle.wh_state.specs.State.{DynamicKind, new_object};
     ghost use Rattle.wh_table.specs.Table.{kept_table};
@@ -39,7 +39,8 @@ impl StoredObject {
     /// A dynamic table that lives.
     pub fn dynamic_table(name: Text, dynamic: Dynamic, table: StoredTable) -> StoredObject
         ensures object { kept_object result
-            ≡ new_object name (DynamicKind (dynamic_of dynamic) (kept_table table)) }
+            ≡ new_object name (DynamicKind (dynamic_of dynamic)
+            (record { table = kept_table table; slots = slots_in dynamic })) }
         ensures filed { filed_of_objects (result ∷ []) ≡ filed_of table }
     {
         StoredObject {

@@ -1,3 +1,4 @@
+use crate::grouping::{groups_set, settle_groups};
 use crate::undo::Step;
 use crate::{Catalog, StageFault, Undo};
 use std::alloc::{AllocError, Global};
@@ -5,9 +6,9 @@ use wh_record::{OutlinedChange, OutlinedCommit};
 use wh_value::Limit;
 
 impl Catalog {
-    ghost use Rattle.std.specs.Prelude.{◌≡◌, ◌++◌, [], map, OnOk, IfOk, OnErr, IsErrOf};
+    ghost use Rattle.std.specs.Prelude.{◌≡◌, ◌++◌, [], map, None, OnOk, IfOk, OnErr, IsErrOf};
     ghost use Rattle.wh_filed.specs.Filed.{AreAmong};
-    ghost use Rattle.wh_state.specs.Commit.{Applies, applied, AllApply, all_changed};
+    ghost use Rattle.wh_state.specs.Commit.{Applies, applied, AllApply, all_changed, GroupsFollow};
     ghost use Rattle.wh_record.specs.View.{commit_of, change_of};
     ghost use Rattle.wh_record.specs.Places.{filed_in, filed_in_changes};
     ghost use Rattle.wh_catalog.specs.Catalog.{stored_of, state_of, objects_of, kept_of, filed_of};
@@ -70,18 +71,26 @@ impl Catalog {
         requires { steps.old.items ≡ [] }
         ensures apply { OnOk result (AllApply stamp (objects_of self.old)
             (map change_of changes.items)) }
+        ensures follow { OnOk result (GroupsFollow stamp (objects_of self.old) None
+            (map change_of changes.items)) }
         ensures changed { OnOk result (objects_of self.new
             ≡ all_changed stamp (objects_of self.old) (map change_of changes.items)) }
         ensures filed { OnOk result (AreAmong (filed_of self.new)
             (filed_of self.old ++ filed_in_changes first (map change_of changes.items))) }
         ensures not_applicable { IsErrOf result StageFault.NotApplicable
-            → AllApply stamp (objects_of self.old) (map change_of changes.items) → ⊥ }
+            → AllApply stamp (objects_of self.old) (map change_of changes.items)
+            → GroupsFollow stamp (objects_of self.old) None (map change_of changes.items) → ⊥ }
         ensures back { undone steps.new.items (kept_of self.new) ≡ kept_of self.old }
         ensures last { self.new.last ≡ self.old.last }
         ensures committed { self.new.committed ≡ self.old.committed }
     {
         let mut at = first;
+        let mut due = None;
         for change in changes {
+            if groups_set(&change) != due {
+                return Err(StageFault::NotApplicable);
+            }
+            due = self.groups_due(&change);
             if steps.reserve(1).is_err() {
                 return Err(StageFault::OutOfMemory);
             }
@@ -94,7 +103,34 @@ impl Catalog {
             }
             at = behind;
         }
+        if due.is_some() {
+            return Err(StageFault::NotApplicable);
+        }
         Ok(())
+    }
+
+    /// Lets go of what takes a commit back, and of the memory of groups that it removed. What a
+    /// catalog stands for stays.
+    pub fn settle(&mut self, undo: Undo)
+        ensures stored { stored_of self.new ≡ stored_of self.old }
+        ensures state { state_of self.new ≡ state_of self.old }
+        ensures filed { filed_of self.new ≡ filed_of self.old }
+    {
+        let Undo { steps, .. } = undo;
+        for step in steps {
+            self.settle_step(step);
+        }
+    }
+
+    fn settle_step(&mut self, step: Step)
+        ensures objects { objects_of self.new ≡ objects_of self.old }
+        ensures filed { filed_of self.new ≡ filed_of self.old }
+        ensures last { self.new.last ≡ self.old.last }
+        ensures committed { self.new.committed ≡ self.old.committed }
+    {
+        if let Step::SetGroups { id, was } = step {
+            settle_groups(&mut self.objects, id, &was);
+        }
     }
 
     /// Takes back what was staged. Takes no memory, and can't fail.

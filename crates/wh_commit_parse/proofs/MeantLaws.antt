@@ -29,7 +29,8 @@ use Rattle.wh_stmt_parse.proofs.Reading.{texts_read}
 use Rattle.wh_state.specs.Task.{TaskTexts, TaskBody, texts_of, SpellsCondition, IsWhenSpelled, IsSpelled}
 use Rattle.wh_state.specs.Commit.{Change, Commit, TextChange, TextCommit, CreatesTable, Drops, PushesVersion}
 use Rattle.wh_state.specs.Commit.{CreatesStream, SetsOffset, CreatesTask, SetsTask, StartsRun, FinishesTask}
-use Rattle.wh_state.specs.Commit.{CreatesDynamic, SetsDynamic, task_as_text, dynamic_as_text, change_as_text, as_text}
+use Rattle.wh_state.specs.Commit.{CreatesDynamic, SetsDynamic, SetsGroups, task_as_text, dynamic_as_text}
+use Rattle.wh_state.specs.Commit.{change_as_text, as_text}
 use Rattle.wh_state.specs.Dynamic.{DynamicTexts, DynamicQuery, query_texts_of, IsQuerySpelled}
 use Rattle.wh_state.specs.Spelling.{IsChange, text_payload, payload_of, IsTextCommit, IsUnderstood, IsCommit}
 use Rattle.wh_commit_parse.specs.Meant.{read_whole, condition_among, condition_of, condition_in, with_text, when_of}
@@ -207,6 +208,7 @@ change_is (SetsTask id state) c good e = as_it_is _ (SetsTask id state) c (tt, r
 change_is (StartsRun root tasks) c good e = as_it_is _ (StartsRun root tasks) c (tt, refl) e
 change_is (FinishesTask root task ending) c good e = as_it_is _ (FinishesTask root task ending) c (tt, refl) e
 change_is (SetsDynamic id state) c good e = as_it_is _ (SetsDynamic id state) c (tt, refl) e
+change_is (SetsGroups id groups) c good e = as_it_is _ (SetsGroups id groups) c (tt, refl) e
 change_is (CreatesTask x) c good e = by (body_meant x.runs) refl e
   where
     by : (found : Option TaskBody) → body_meant x.runs ≡ found → option_map (with_body x) found ≡ Some c
@@ -256,6 +258,7 @@ change_again (StartsRun root tasks) h = refl
 change_again (FinishesTask root task ending) h = refl
 change_again (CreatesDynamic x) h = ap (option_map (with_query (dynamic_as_text x))) (dynamic_again x.query h)
 change_again (SetsDynamic id state) h = refl
+change_again (SetsGroups id groups) h = refl
 
 -- ---- commits
 

@@ -22,7 +22,7 @@ use Rattle.wh_state.specs.Task.{TaskTexts, TaskBody}
 use Rattle.wh_state.specs.Dynamic.{DynamicTexts, DynamicQuery}
 use Rattle.wh_state.specs.Commit.{InTexts, TaskChangeIn, DynamicChangeIn, TextChange, TextCommit, Change, Commit}
 use Rattle.wh_state.specs.Commit.{CreatesTable, Drops, PushesVersion, CreatesStream, SetsOffset, CreatesTask, SetsTask}
-use Rattle.wh_state.specs.Commit.{StartsRun, FinishesTask, CreatesDynamic, SetsDynamic}
+use Rattle.wh_state.specs.Commit.{StartsRun, FinishesTask, CreatesDynamic, SetsDynamic, SetsGroups}
 
 -- ---- conditions
 
@@ -117,6 +117,7 @@ change_meant (StartsRun root tasks) = Some (StartsRun root tasks)
 change_meant (FinishesTask root task ending) = Some (FinishesTask root task ending)
 change_meant (CreatesDynamic c) = option_map (with_query c) (query_meant c.query)
 change_meant (SetsDynamic id state) = Some (SetsDynamic id state)
+change_meant (SetsGroups id groups) = Some (SetsGroups id groups)
 
 abbrev pub one_more : Option Change → Option (List Change) → Option (List Change)
 one_more (Some c) (Some cs) = Some (c ∷ cs)

@@ -198,6 +198,7 @@ fn change_meant(alloc: Global, change: TextChange) -> Result<OutlinedChange, Par
             Ok(ChangeIn::CreatesDynamic(dynamic_meant(alloc, table)?))
         }
         ChangeIn::SetsDynamic { id, state } => Ok(ChangeIn::SetsDynamic { id, state }),
+        ChangeIn::SetsGroups { id, groups } => Ok(ChangeIn::SetsGroups { id, groups }),
     }
 }
 

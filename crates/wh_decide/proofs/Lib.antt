@@ -10,6 +10,7 @@ mod TaskLemmas
 mod AlterLemmas
 mod DynamicLemmas
 mod NewDynamics
+mod MadeDynamics
 pub mod TransactionLemmas
 mod SeenLemmas
 mod SourceLemmas

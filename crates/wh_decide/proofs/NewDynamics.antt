@@ -20,7 +20,8 @@ use Rattle.wh_ddl_naming.specs.DynamicTables.{NewDynamicTable}
 use Rattle.wh_ddl_naming.specs.Tables.{column_names}
 use Rattle.wh_reply.specs.Reply.{Refusal, OverLimit, DdlInTransaction, Locked, Altered}
 use Rattle.wh_state.specs.State.{Object, State, DynamicKind, new_object, empty_table, live_count, stamped}
-use Rattle.wh_state.specs.Dynamic.{DynamicQuery, ids_read, new_dynamic}
+use Rattle.wh_state.specs.Dynamic.{DynamicQuery, Kept, ids_read, first_dynamic_state, new_dynamic}
+use Rattle.wh_state.specs.Bound.{kept_for}
 use Rattle.wh_state.specs.Edits.{is_among}
 use Rattle.wh_state.specs.Objects.{name_at}
 use Rattle.wh_state.specs.Act.{Act}
@@ -38,7 +39,8 @@ use Rattle.wh_machine.specs.Dynamics.{mode_refusal}
 use Rattle.wh_machine.specs.Dynamics.{dynamic_made, with_dynamic, new_id, dynamic_refusal, initialized, query_of}
 use Rattle.wh_machine.specs.Dynamics.{create_dynamic, lag_refusal, set_lag, alters}
 use Rattle.wh_decide.specs.Decision.{machine_at}
-use Rattle.wh_decide.specs.Dynamics.{stored_with, dynamic_change, new_upstream, new_limit_refusal, lag_state}
+use Rattle.wh_decide.specs.Dynamics.{has_increments, stored_with, dynamic_change, new_upstream, new_limit_refusal}
+use Rattle.wh_decide.specs.Dynamics.{lag_state}
 use Rattle.wh_decide.proofs.NamingLemmas.{alone}
 use Rattle.wh_decide.proofs.DefineLemmas.{counts_none, not_past}
 use Rattle.wh_decide.proofs.DynamicLemmas.{defines_first}
@@ -87,14 +89,14 @@ upstream_last all last count is =
 pub upstream_new : (s : State) (n : NewDynamicTable) (query : DynamicQuery)
     → upstream (dynamics_of (with_dynamic s n query).objects) (new_id s) ≡ new_upstream s.objects query
 upstream_new s n query =
+    let kept : Option Kept = kept_for s.objects (has_increments n) query in
     let made : Object = new_object n.name (DynamicKind
-    (new_dynamic (seconds_of n.lag) (is_incremental n.mode (incrementable n.query)) query)
-    (empty_table n.columns s.last)) in
+    (new_dynamic (seconds_of n.lag) (has_increments n) kept query) (empty_table n.columns s.last)) in
     let last : Watched = record {
       is_live = true;
       created = s.last;
       sources = ids_read query;
-      state = (new_dynamic (seconds_of n.lag) (is_incremental n.mode (incrementable n.query)) query).state;
+      state = first_dynamic_state (seconds_of n.lag);
     } in
     ap (λ (all : Dynamics). upstream all (new_id s)) (map_more watched_object s.objects made)
     ∙ upstream_last (dynamics_of s.objects) last (length s.objects) (sym (length-map s.objects watched_object))
@@ -143,7 +145,7 @@ refusal_stamped s stamp n = sym (refusal_by (stamped s stamp) n) ∙ refusal_by 
 
 parts_none : (m b c l k w t : Option Refusal)
     → first_of (m ∷ b ∷ first_of (c ∷ l ∷ k ∷ w ∷ t ∷ []) ∷ []) ≡ None
-    → (c ≡ None) × ((k ≡ None) × (t ≡ None))
+    → (m ≡ None) × ((c ≡ None) × ((k ≡ None) × (t ≡ None)))
 parts_none (Some why) b c l k w t is = absurd cc
 parts_none None (Some why) c l k w t is = absurd cc
 parts_none None None (Some why) l k w t is = absurd cc
@@ -151,7 +153,7 @@ parts_none None None None (Some why) k w t is = absurd cc
 parts_none None None None None (Some why) w t is = absurd cc
 parts_none None None None None None (Some why) t is = absurd cc
 parts_none None None None None None None (Some why) is = absurd cc
-parts_none None None None None None None None is = (refl, (refl, refl))
+parts_none None None None None None None None is = (refl, (refl, (refl, refl)))
 
 second_none : (p q : Option Refusal) → first_of (p ∷ q ∷ []) ≡ None → q ≡ None
 second_none None None is = refl
@@ -165,6 +167,7 @@ within_lag (lags.Seconds n) none = not_past limits.MostTargetLag n (second_none
     (refused_past limits.MostTargetLag n) none)
 
 pub record IsWithin (s : State) (n : NewDynamicTable) : Type 0 where
+  pub mode : mode_refusal n.mode (incrementable n.query) ≡ None
   pub room : length s.objects + 1 ≤ bound limits.ObjectIds
   pub columns : length n.columns ≤ bound limits.Columns
   pub lag : seconds_of n.lag ≤ bound limits.MostTargetLag
@@ -182,11 +185,12 @@ within_limits s n none =
     (refusal_by s n ∙ none) in
     let counts = counts_none
     (refused_past limits.ObjectIds (length s.objects + 1))
-    (refused_past limits.Objects (live_count s.objects + 1 - 0)) [] parts.0 in
+    (refused_past limits.Objects (live_count s.objects + 1 - 0)) [] parts.1.0 in
     record {
+      mode = parts.0;
       room = not_past limits.ObjectIds (length s.objects + 1) counts.0;
-      columns = not_past limits.Columns (length n.columns) parts.1.0;
-      lag = within_lag n.lag parts.1.1;
+      columns = not_past limits.Columns (length n.columns) parts.1.1.0;
+      lag = within_lag n.lag parts.1.1.1;
     }
 
 -- ---- its outcome
@@ -216,13 +220,6 @@ pub made_written : (stamp : ℕ) (objects : List StoredObject) (n : NewDynamicTa
     ≡ written stamp objects (dynamic_made n (query_of n) ++ acts)
 unfolding changed
 made_written stamp objects n acts = refl
-
--- the objects with it, at a stamp
-pub made_objects : (s : State) (n : NewDynamicTable) → (with_dynamic s n (query_of n)).objects
-    ≡ s.objects ++ new_object n.name (DynamicKind
-    (new_dynamic (seconds_of n.lag) (is_incremental n.mode (incrementable n.query)) (query_of n))
-    (empty_table n.columns s.last)) ∷ []
-made_objects s n = refl
 
 -- ---- a new lag
 

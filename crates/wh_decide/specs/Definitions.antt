@@ -3,6 +3,7 @@
 --     in_transaction    the refusal of one in a transaction
 --     earlier_refusal   what a statement is refused for before its names are looked at
 --     reads_rows        a statement that is bound and reads rows, or may
+--     IsBoundOver       a statement that is bound over these objects
 --     IsMeantRead       what a statement that is bound keeps of texts is understood
 use Rattle.std.specs.Prelude.{ℕ, Bool, true, false, List, [], ◌∷◌, Option, Some, None, option_map}
 use Rattle.wh_ast.specs.declared.statement.Statement.{Statement}
@@ -10,6 +11,7 @@ use Rattle.wh_ast.specs.declared.statement.Statement.TheVariants as st
 use Rattle.wh_ddl_naming.specs.Statements as ddl
 use Rattle.wh_ddl_naming.specs.Statements.{Bound}
 use Rattle.wh_reply.specs.Reply.{Refusal, DdlInTransaction}
+use Rattle.wh_state.specs.State.{Object}
 use Rattle.wh_state.specs.Commit.{Change, Drops}
 use Rattle.wh_state.specs.Dynamic.{IsQuerySpelled}
 use Rattle.wh_machine.specs.Sessions.{number_in}
@@ -19,6 +21,7 @@ use Rattle.wh_machine.specs.Statements.{carried_out}
 use Rattle.wh_txn.specs.Recording.{IsRead}
 use Rattle.wh_decide.specs.declared.sight.Sight.{Sight}
 use Rattle.wh_decide.specs.Sight.{machine_in, commit_meant}
+use Rattle.wh_decide.specs.Dynamics.{IsBoundAs}
 
 abbrev pub drops_written : Option ℕ → List Change
 drops_written None = []
@@ -60,6 +63,11 @@ reads_rows (ddl.HasData stream) = true
 reads_rows (ddl.CreateDynamicTable n) = true
 reads_rows (ddl.RefreshDynamicTable id) = true
 reads_rows _ = false
+
+-- a new dynamic table's query is what its text binds to
+abbrev pub IsBoundOver : List Object → Bound → Type 0
+IsBoundOver objects (ddl.CreateDynamicTable n) = IsBoundAs objects n
+IsBoundOver objects _ = Unit {0}
 
 -- the text of a new dynamic table spells its query
 abbrev pub IsBoundSpelled : Bound → Type 0

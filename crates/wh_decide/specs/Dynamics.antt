@@ -1,6 +1,9 @@
 -- What is asked of dynamic tables, and what is written for them.
+--     has_increments                 whether changes are carried through its query
 --     new_dynamic_in, new_stored     a new dynamic table as the file will have it
 --     stored_with                    the objects with it
+--     IsBoundAs                      its query is what its text binds to
+--     MayBeMade                      changes are carried through that only where it allows it
 --     dynamic_change                 the change that makes it, behind so many objects
 --     new_upstream                   the dynamic tables that it will read
 --     new_limit_refusal              the first limit that it is beyond
@@ -8,9 +11,9 @@
 --     initialized_in, IsFirstRefresh     what it comes to, and what its first refresh does
 --     put_written                    what is written for a dynamic table of another state
 --     resumed_state, suspended_state, lag_state     states that ALTER DYNAMIC TABLE puts
-use Rattle.std.specs.Prelude.{◌≤◌, ℕ, ◌+◌, true, false, List, [], ◌∷◌, ◌++◌, length, Option, Some, None}
-use Rattle.std.specs.Prelude.{if◌then◌else◌}
-use Rattle.std.specs.List.{list_any}
+use Rattle.std.specs.Prelude.{◌≡◌, ◌≤◌, ℕ, ◌+◌, Bool, IsTrue, true, false, List, [], ◌∷◌, ◌++◌, length, Option, Some}
+use Rattle.std.specs.Prelude.{None, if◌then◌else◌}
+use Rattle.std.specs.List.{AllByRecursion, list_any}
 use Rattle.wh_value.specs.Limit.{bound}
 use Rattle.wh_value.specs.declared.limit.Limit.TheVariants as limits
 use Rattle.wh_ast.specs.declared.statement.Initialize.{Initialize}
@@ -24,6 +27,7 @@ use Rattle.wh_reply.specs.Reply.{Refusal, OverLimit}
 use Rattle.wh_state.specs.State.{Object, State, DynamicKind, new_object, empty_table}
 use Rattle.wh_state.specs.Dynamic.{DynamicQuery, DynamicState, Dynamic, IsQuerySpelled, ids_read, new_dynamic}
 use Rattle.wh_state.specs.Stored.{StoredObject}
+use Rattle.wh_state.specs.Bound.{query_bound, kept_for}
 use Rattle.wh_state.specs.Commit.{Change, DynamicChange, SetsDynamic}
 use Rattle.wh_moment.specs.Upstream.{dynamics_of, reached_from}
 use Rattle.wh_machine.specs.Tests.{refused_if, refused_past, first_of}
@@ -39,21 +43,38 @@ use Rattle.wh_decide.specs.Sight.{machine_in}
 
 -- ---- CREATE DYNAMIC TABLE
 
-abbrev pub new_dynamic_in : NewDynamicTable → Dynamic
-new_dynamic_in n = new_dynamic (seconds_of n.lag) (is_incremental n.mode (incrementable n.query)) (query_of n)
+abbrev pub has_increments : NewDynamicTable → Bool
+has_increments n = is_incremental n.mode (incrementable n.query)
 
-abbrev pub new_stored : ℕ → NewDynamicTable → StoredObject
-new_stored stamp n = new_object n.name (DynamicKind (new_dynamic_in n) (empty_table n.columns stamp))
+abbrev pub new_dynamic_in : List StoredObject → NewDynamicTable → Dynamic
+new_dynamic_in objects n =
+    new_dynamic (seconds_of n.lag) (has_increments n) (kept_for objects (has_increments n) (query_of n)) (query_of n)
+
+abbrev pub new_stored : ℕ → List StoredObject → NewDynamicTable → StoredObject
+new_stored stamp objects n = new_object n.name (DynamicKind (new_dynamic_in objects n) (empty_table n.columns stamp))
 
 abbrev pub stored_with : ℕ → List StoredObject → NewDynamicTable → List StoredObject
-stored_with stamp objects n = objects ++ new_stored stamp n ∷ []
+stored_with stamp objects n = objects ++ new_stored stamp objects n ∷ []
+
+abbrev pub ReadsThere : List Object → NewDynamicTable → Type 0
+ReadsThere objects n = AllByRecursion (λ s. s.id ≤ length objects) (query_of n).sources
+
+-- as a statement over these objects makes it
+pub record IsBoundAs (objects : List Object) (n : NewDynamicTable) : Type 0 where
+  pub reads : ReadsThere objects n
+  pub query : n.query ≡ (query_bound objects (query_of n)).query
+
+-- and as its refresh mode allows
+pub record MayBeMade (objects : List Object) (n : NewDynamicTable) : Type 0 where
+  pub reads : ReadsThere objects n
+  pub mode : IsTrue (has_increments n) → IsTrue (incrementable (query_bound objects (query_of n)).query)
 
 abbrev pub dynamic_change : ℕ → NewDynamicTable → DynamicChange
 dynamic_change count n = record {
   id = count + 1;
   name = n.name;
   lag = seconds_of n.lag;
-  is_incremental = is_incremental n.mode (incrementable n.query);
+  is_incremental = has_increments n;
   query = query_of n;
   columns = n.columns;
 }

@@ -8,7 +8,9 @@ ghost use Rattle.wh_machine.specs.Statements.{carried_out};
 ghost use Rattle.wh_machine.specs.Reading.{start_in};
 ghost use Rattle.wh_stmt_parse.specs.Request.{request_of};
 ghost use Rattle.wh_ddl_bind.specs.View.{bound_of};
-ghost use Rattle.wh_decide.specs.Definitions.{earlier_refusal, reads_rows, IsMeantRead};
+ghost use Rattle.wh_catalog.specs.Catalog.{state_of};
+ghost use Rattle.wh_decide.specs.Definitions.{earlier_refusal, reads_rows, IsBoundOver};
+ghost use Rattle.wh_decide.specs.Definitions.{IsMeantRead};
 ghost use Rattle.wh_decide.specs.Sight.{machine_in, IsShown, IsSound, Comes, IsReady};
 ghost use Rattle.wh_decide.specs.Asked.{AsksAsBound, AsksAsRequested};
 
@@ -157,6 +159,7 @@ fn decide_bound<D: Disk>(
 ) -> Result<Decision, FetchFault>
     requires { IsRight D.Disk fetch.old }
     ensures comes { IsShown (told_of D.Disk fetch.old) sight.now → IsSound sight.now
+        → IsBoundOver (state_of sight.now.catalog.now).objects (bound_of statement)
         → IfOk result (λ decision. Comes sight.now decision
         (carried_out (machine_in sight.now) sight.now.session None (bound_of statement))) }
     ensures ready { IsMeantRead sight.now (bound_of statement)

@@ -32,6 +32,7 @@ ghost use Rattle.wh_catalog.specs.Catalog.{stored_of, state_of};
 ghost use Rattle.wh_refresh.specs.Refreshing.{AreRead};
 ghost use Rattle.wh_decide.specs.Dynamics.{new_stored, stored_with, dynamic_change, new_upstream};
 ghost use Rattle.wh_decide.specs.Dynamics.{new_dynamic_in, new_limit_refusal, FitsLimits};
+ghost use Rattle.wh_decide.specs.Dynamics.{IsBoundAs, MayBeMade};
 ghost use Rattle.wh_decide.specs.Dynamics.{HasSpelledQuery, initialized_in, IsFirstRefresh};
 ghost use Rattle.wh_table.specs.Table.{table_of, filed_of};
 ghost use Rattle.wh_decide.specs.Sight.{machine_in, IsShown, IsSound, Comes, IsReady};
@@ -71,6 +72,7 @@ pub(crate) fn create_dynamic<D: Disk>(
 ) -> Result<Decision, FetchFault>
     requires { IsRight D.Disk fetch.old }
     ensures comes { IsShown (told_of D.Disk fetch.old) sight.now → IsSound sight.now
+        → IsBoundAs (state_of sight.now.catalog.now).objects (new_dynamic_table_of table.now)
         → IfOk result (λ decision. Comes sight.now decision
         (defines (machine_in sight.now) sight.now.session None
         (machine.create_dynamic (machine_in sight.now) None (new_dynamic_table_of table.now)))) }
@@ -100,6 +102,7 @@ fn new_dynamic<D: Disk>(
     requires fits { FitsLimits table.now }
     requires room { length (stored_of sight.now.catalog.now).objects + 1 ≤ bound limits.ObjectIds }
     ensures comes { IsShown (told_of D.Disk fetch.old) sight.now → IsSound sight.now
+        → MayBeMade (state_of sight.now.catalog.now).objects (new_dynamic_table_of table.now)
         → IfOk result (λ decision. Comes sight.now decision
         (initialized_in sight.now table.now table.now.initialize)) }
     ensures ready { HasSpelledQuery table.now → IfOk result (λ d. IsReady sight.now d) }
@@ -135,6 +138,7 @@ fn initialized<D: Disk>(
         ≡ dynamic_change (length (stored_of sight.now.catalog.now).objects)
         (new_dynamic_table_of table.now) }
     ensures comes { IsShown (told_of D.Disk fetch.old) sight.now → IsSound sight.now
+        → MayBeMade (state_of sight.now.catalog.now).objects (new_dynamic_table_of table.now)
         → IfOk result (λ decision. Comes sight.now decision
         (initialized_in sight.now table.now starts.OnCreate)) }
     ensures ready { HasSpelledQuery table.now → IfOk result (λ d. IsReady sight.now d) }
@@ -165,7 +169,9 @@ fn first_refresh<D: Disk>(
     requires filed { filed_of_objects (made.now ∷ []) ≡ [] }
     ensures refreshes { IsShown (told_of D.Disk fetch.old) sight.now → IsSound sight.now
         → IfOk result (λ found. (n : naming.NewDynamicTable)
-        → object_in (kept_object made.now) ≡ new_stored sight.now.stamp n
+        → MayBeMade (state_of sight.now.catalog.now).objects n
+        → object_in (kept_object made.now) ≡ new_stored sight.now.stamp
+        (stored_of sight.now.catalog.now).objects n
         → IsFirstRefresh sight.now n id found) }
     ensures read { IfOk result (λ found. AreRead found) }
     ensures sound { IsShown (told_of D.Disk fetch.old) sight.now
@@ -252,23 +258,31 @@ fn made(
 ) -> Result<StoredObject, AllocError>
     requires { FitsLimits table.now }
     ensures made { IfOk result (λ object. object_in (kept_object object)
-        ≡ new_stored sight.now.stamp (new_dynamic_table_of table.now)) }
+        ≡ new_stored sight.now.stamp (stored_of sight.now.catalog.now).objects
+        (new_dynamic_table_of table.now)) }
     ensures filed { IfOk result (λ object. filed_of_objects (object ∷ []) ≡ []) }
 {
-    let dynamic = made_dynamic(alloc, table)?;
+    let dynamic = made_dynamic(alloc, sight, table)?;
     let rows = made_rows(alloc, table, sight.stamp)?;
     let name = table.name.copy(alloc)?;
     Ok(StoredObject::dynamic_table(name, dynamic, rows))
 }
 
-fn made_dynamic(alloc: Global, table: &NewDynamicTable) -> Result<Dynamic, AllocError>
+fn made_dynamic(
+    alloc: Global,
+    sight: &Sight<'_>,
+    table: &NewDynamicTable,
+) -> Result<Dynamic, AllocError>
     requires { machine.seconds_of table.now.lag ≤ bound limits.MostTargetLag }
     ensures { IfOk result (λ dynamic. dynamic_of dynamic
-        ≡ new_dynamic_in (new_dynamic_table_of table.now)) }
+        ≡ new_dynamic_in (stored_of sight.now.catalog.now).objects
+        (new_dynamic_table_of table.now)) }
 {
     let lag = seconds_of(table.lag) as u32;
     let query = written_query(alloc, table)?;
-    Dynamic::new(alloc, lag, is_incremental(table), query)
+    let is_incremental = is_incremental(table);
+    let kept = sight.catalog.kept_for(is_incremental, &query)?;
+    Dynamic::new(alloc, lag, is_incremental, kept, query)
 }
 
 fn made_rows(alloc: Global, table: &NewDynamicTable, stamp: u64) -> Result<StoredTable, AllocError>

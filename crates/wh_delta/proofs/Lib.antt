@@ -5,3 +5,4 @@ pub mod MovedLaws
 pub mod Places
 pub mod Rising
 pub mod FoundLaws
+pub mod KeptLaws

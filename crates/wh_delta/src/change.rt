@@ -15,13 +15,14 @@ ghost use Rattle.wh_delta.specs.Found.{FindsNet, IsApart};
 use crate::carrying::carried;
 use crate::moved::{moved, sources_held};
 use crate::moves::{Changing, Moves};
-use crate::reading::{linear, net_over};
+use crate::reading::net_over;
 use crate::staying::counted;
 use std::alloc::{AllocError, Global};
 use wh_algebra::Query;
 use wh_bag::{Signed, net};
 use wh_exec::Source;
 use wh_fetch::{Fetch, FetchFault};
+use wh_group::is_linear;
 
 /// The net change of a query's rows, from what its sources held before to what they hold now, where
 /// it had rows before; None where it has none now. Of a linear query only the partitions are read
@@ -115,14 +116,14 @@ fn moves_of<F: Fetch>(
     ensures goes { F.stays fetch.old fetch.new }
     ensures counts { Counts (F.faults fetch.old) (F.faults fetch.new) result }
 {
-    if linear(query) {
+    if is_linear(query) {
         return net_over(alloc, query, comes, goes, fetch);
     }
     let sources = Changing { old, comes, goes };
     carried(alloc, query, &sources, fetch)
 }
 
-fn signed(alloc: Global, moves: &Moves) -> Result<Signed, AllocError>
+pub(crate) fn signed(alloc: Global, moves: &Moves) -> Result<Signed, AllocError>
     ensures { IfOk result (λ change. IsNet (bag_of moves.now.goes.items)
         (bag_of moves.now.comes.items) change.plus change.minus) }
 {

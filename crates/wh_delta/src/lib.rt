@@ -6,14 +6,13 @@ mod carrying;
 mod change;
 mod group;
 mod join;
+mod kept;
 mod linear;
 mod moved;
 mod moves;
 mod plans;
 mod reading;
 mod staying;
-#[cfg(test)]
-mod worked;
 
 pub use change::{delta, linear_delta};
-pub use reading::linear as is_linear;
+pub use kept::{KeptChange, kept_delta, kept_delta_between};

@@ -6,7 +6,6 @@ ghost use Rattle.wh_meaning.specs.Query.{eval};
 ghost use Rattle.wh_algebra.specs.View.{query_of};
 ghost use Rattle.wh_exec.specs.Source.{instance_in, filed_in};
 ghost use Rattle.wh_maintenance.specs.Carried.{sided};
-ghost use Rattle.wh_maintenance.specs.Delta as changes;
 ghost use Rattle.wh_delta.specs.Moves.{rows_bag, NetsTo};
 
 use crate::at_hand::rows_found;
@@ -18,20 +17,6 @@ use wh_exec::Source;
 use wh_fetch::{Fetch, FetchFault};
 use wh_plan::answered;
 use wh_value::Row;
-
-/// Whether the query has no operators but Scan, Filter, Project and UnionAll, so that the rows that
-/// stay count for nothing.
-#[tactic(auto, unfolding(wh_maintenance::specs::Delta::linear))]
-pub fn linear(query: &Query) -> bool
-    ensures { result ≡ changes.linear (query_of query.now) }
-{
-    match query {
-        Query::Scan(_) => true,
-        Query::Filter(input, _) | Query::Project(input, _) => linear(input.get()),
-        Query::Join(_, _, _) | Query::Group(_, _, _) => false,
-        Query::UnionAll(left, right) => linear(left.get()) && linear(right.get()),
-    }
-}
 
 /// The net of what the query gives over rows that come, and over rows that go; None where it is
 /// undefined over one of them.

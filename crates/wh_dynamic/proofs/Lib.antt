@@ -1,2 +1,3 @@
 pub mod PlaceLemmas
 pub mod PeriodLemmas
+pub mod NoSlots

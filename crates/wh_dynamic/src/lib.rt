@@ -3,6 +3,7 @@
 
 mod due;
 mod dynamic;
+mod kept;
 mod period;
 mod query;
 mod reached;
@@ -12,6 +13,7 @@ mod watched;
 
 pub use due::due_table;
 pub use dynamic::Dynamic;
+pub use kept::{GroupsChange, Kept};
 pub use query::{DynamicQuery, NamedSource};
 pub use reached::{brought, upstream, upstream_of_new};
 pub use reads::ids_read;

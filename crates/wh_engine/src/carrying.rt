@@ -222,6 +222,7 @@ impl<D: Disk> Warehouse<D> {
         match self.journal.append(&mut self.fetch.disk, &framed) {
             Ok(()) => {
                 self.fetch.reach = records_end(&self.journal);
+                self.catalog.settle(undo);
                 Ok(())
             }
             Err(fault) => {

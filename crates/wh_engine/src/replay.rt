@@ -100,7 +100,10 @@ fn carry_out(
     };
     let commit = decoded?;
     match catalog.stage(commit, position) {
-        Ok(_undo) => Ok(()),
+        Ok(undo) => {
+            catalog.settle(undo);
+            Ok(())
+        }
         Err(StageFault::OutOfMemory) => Err(OpenFault::OutOfMemory),
         Err(StageFault::NotApplicable) => Err(OpenFault::NotWarehouse { at: gate }),
     }

@@ -9,10 +9,9 @@ use Rattle.std.specs.Prelude.{option_map}
 use Rattle.std.proofs.Common.{refl, sym, ap, subst, ◌∙◌, inl, inr}
 use Rattle.std.specs.List.{AllByRecursion}
 use Rattle.std.specs.List.Sorted.{IsStrictlySortedBy}
-use Rattle.std.specs.declared.cmp.Ordering.{Ordering}
-use Rattle.std.specs.declared.cmp.Ordering.TheVariants.{Less, Equal, Greater}
-use Rattle.std.specs.Ordering.{is_eq, is_lt, ordering_reverse, eq_by_cmp}
-use Rattle.std.specs.FinMap.{get, find, is_sorted, get-insert, get-remove}
+use Rattle.std.specs.declared.cmp.Ordering.TheVariants.{Less}
+use Rattle.std.specs.Ordering.{is_lt, eq_by_cmp}
+use Rattle.std.specs.FinMap.{get, find, is_sorted}
 use Rattle.std.specs.FinMap.Entries.{below_all}
 use Rattle.wh_value.specs.Value.{Row, row_cmp}
 use Rattle.wh_value.specs.Order.{row_total}
@@ -23,37 +22,11 @@ use Rattle.wh_meaning.specs.Query.{Call}
 use Rattle.wh_meaning.proofs.BagLaws.{tied_rows}
 use Rattle.wh_meaning.proofs.Gathered.{each, gathered-each}
 use Rattle.wh_maintenance.specs.Standing.{Standing, Groups, answers, shown}
+use Rattle.wh_maintenance.specs.Entries.{GroupEntry, set_at, set_one, set_all}
+use Rattle.wh_maintenance.proofs.EntryLaws.{less_is, not_among, apart_back, get-set_at}
 use Rattle.wh_group.specs.Moves.{Move}
-use Rattle.wh_group.specs.Entries.{set_at, set_one, set_all}
 use Rattle.wh_group.specs.Settling.{now_at, shown_rows, appended, befores, afters, IsChange, AreChanges}
 use Rattle.wh_group.specs.Updates.{keys_of}
-use Rattle.wh_group.specs.declared.groups.Entry.{Entry}
-
-pub get-set_at : (groups : Groups) (key : Row) (v : Option Standing) (q : Row)
-    → get (set_at groups key v) q ≡ cond (eq_by_cmp row_cmp q key) v (get groups q)
-get-set_at groups key None q = get-remove row_total groups key q
-get-set_at groups key (Some s) q = get-insert row_total groups key s q
-
-less_is : (r : Ordering) → T (is_lt r) → r ≡ Less
-less_is Less h = refl
-less_is Equal h = absurd h
-less_is Greater h = absurd h
-
-not_tied : (r : Ordering) → T (is_lt r) → is_eq r ≡ false
-not_tied Less h = refl
-not_tied Equal h = absurd h
-not_tied Greater h = absurd h
-
-not_tied_back : (r : Ordering) → T (is_lt r) → is_eq (ordering_reverse r) ≡ false
-not_tied_back Less h = refl
-not_tied_back Equal h = absurd h
-not_tied_back Greater h = absurd h
-
-not_among : (q : Row) (es : List (Row × Move)) → T (below_all row_cmp q es) → find row_cmp q es ≡ None
-not_among q [] h = refl
-not_among q (e ∷ es) h =
-    let parts = both_hold (is_lt (row_cmp q e.0)) (below_all row_cmp q es) h in
-    ap (λ t. cond t (Some e.1) (find row_cmp q es)) (not_tied (row_cmp q e.0) parts.0) ∙ not_among q es parts.1
 
 module _ (calls : List Call) (groups : Groups) where
   abbrev pub after_at : Row → Option Move → Option Standing → Option Standing
@@ -74,7 +47,7 @@ module _ (calls : List Call) (groups : Groups) where
   agree_set g k key v (e ∷ es) is below h =
       let parts = both_hold (is_lt (row_cmp k e.0)) (below_all row_cmp k es) below in
       let apart : eq_by_cmp row_cmp e.0 key ≡ false = ap (eq_by_cmp row_cmp e.0) is
-      ∙ ap is_eq (row_total.antisymm e.0 k) ∙ not_tied_back (row_cmp k e.0) parts.0 in (
+      ∙ apart_back row_total k e.0 parts.0 in (
         get-set_at g key v e.0 ∙ ap (λ t. cond t v (get g e.0)) apart ∙ h.0,
         agree_set g k key v es is parts.1 h.1,
       )
@@ -93,13 +66,13 @@ module _ (calls : List Call) (groups : Groups) where
         | true ↦ λ t.
             rest
             ∙ ap (λ o. after_at k o (get g k))
-            (not_among k es (subst (λ q. T (below_all row_cmp q es)) (sym (tied_rows k e.0 t)) below))
+            (not_among row_cmp k es (subst (λ q. T (below_all row_cmp q es)) (sym (tied_rows k e.0 t)) below))
             ∙ ap (get g) (tied_rows k e.0 t) ∙ agrees ∙ sym same ∙ sym (now_tied k e t)
         | false ↦ λ t. rest
       ] refl
 
   -- an entry that is other than before
-  changed : (e : Row × Move) (es : List (Row × Move)) (x : Entry) (g g' : Groups) (k : Row)
+  changed : (e : Row × Move) (es : List (Row × Move)) (x : GroupEntry) (g g' : Groups) (k : Row)
       → T (below_all row_cmp e.0 es) → IsChange calls groups e x
       → get g' k ≡ after_at k (find row_cmp k es) (get (set_one g x) k)
       → get g' k ≡ after_at k (find row_cmp k (e ∷ es)) (get g k)
@@ -113,12 +86,12 @@ module _ (calls : List Call) (groups : Groups) where
         | true ↦ λ t h.
             rest
             ∙ ap (λ o. after_at k o (get (set_one g x) k))
-            (not_among k es (subst (λ q. T (below_all row_cmp q es)) (sym (tied_rows k e.0 t)) below))
+            (not_among row_cmp k es (subst (λ q. T (below_all row_cmp q es)) (sym (tied_rows k e.0 t)) below))
             ∙ h ∙ change.2 ∙ sym (now_tied k e t)
         | false ↦ λ t h. rest ∙ ap (after_at k (find row_cmp k es)) h
       ] refl here
 
-  pub set_all-get : (es : List (Row × Move)) (xs : List Entry) (g : Groups) (k : Row) → T (is_sorted row_cmp es)
+  pub set_all-get : (es : List (Row × Move)) (xs : List GroupEntry) (g : Groups) (k : Row) → T (is_sorted row_cmp es)
       → AreChanges calls groups es xs → Agree g es
       → get (set_all xs g) k ≡ after_at k (find row_cmp k es) (get g k)
   set_all-get [] [] g k sorted h agree = refl
@@ -154,7 +127,7 @@ module _ (calls : List Call) (groups : Groups) where
 
   -- ---- the entries
 
-  all_above : (k : Row) (es : List (Row × Move)) (xs : List Entry) → T (below_all row_cmp k es)
+  all_above : (k : Row) (es : List (Row × Move)) (xs : List GroupEntry) → T (below_all row_cmp k es)
       → AreChanges calls groups es xs → AllByRecursion (λ y. row_cmp k y ≡ Less) (keys_of xs)
   all_above k [] [] below h = tt
   all_above k [] (x ∷ xs) below h = absurd h
@@ -165,7 +138,7 @@ module _ (calls : List Call) (groups : Groups) where
       let parts = both_hold (is_lt (row_cmp k e.0)) (below_all row_cmp k es) below in
       (ap (row_cmp k) h.0.1 ∙ less_is (row_cmp k e.0) parts.0, all_above k es xs parts.1 h.1)
 
-  pub rising : (es : List (Row × Move)) (xs : List Entry) → T (is_sorted row_cmp es)
+  pub rising : (es : List (Row × Move)) (xs : List GroupEntry) → T (is_sorted row_cmp es)
       → AreChanges calls groups es xs → IsStrictlySortedBy row_cmp (keys_of xs)
   unfolding IsStrictlySortedBy
   rising [] [] sorted h = tt
@@ -179,7 +152,7 @@ module _ (calls : List Call) (groups : Groups) where
         rising es xs s.1 h.1,
       )
 
-  pub all_change : (es : List (Row × Move)) (xs : List Entry) → AreChanges calls groups es xs
+  pub all_change : (es : List (Row × Move)) (xs : List GroupEntry) → AreChanges calls groups es xs
       → AllByRecursion (λ x. x.group ≢ get groups x.key) xs
   all_change [] [] h = tt
   all_change [] (x ∷ xs) h = absurd h

@@ -2,6 +2,7 @@ pub mod TallyLaws
 pub mod MoveLaws
 pub mod MapLaws
 pub mod LoopLaws
+pub mod SlotLaws
 pub mod WalkLaws
 pub mod ChangeLaws
 pub mod UpdateLaws

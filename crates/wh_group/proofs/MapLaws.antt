@@ -1,14 +1,14 @@
 -- The entries of the code's trees, and the maps that they are.
 --     row_left, row_noted     the moves with a row more
 --     not_noted               a row that can't be noted
---     set_after, gone_after   groups with what stands at one key
+--     set_after, gone_after   slots with what stands at one key
 use Rattle.std.specs.Prelude.{◌≡◌, cond, List, Some, None, option_map, unwrap_or, Result, Ok, Err}
 use Rattle.std.proofs.Common.{sym, ap, ◌∙◌}
 use Rattle.std.specs.Ordering.{is_eq}
 use Rattle.std.specs.Cmp.{eq_by_cmp_equiv}
 use Rattle.std.specs.BTreeMap.{is_at}
 use Rattle.std.specs.Map.{lookup}
-use Rattle.std.specs.FinMap.{get, insert, remove, from_entries, same_map, get-remove}
+use Rattle.std.specs.FinMap.{insert, remove, from_entries, same_map, get-remove}
 use Rattle.wh_value.specs.Value.{Row, row_cmp}
 use Rattle.wh_value.specs.Order.{row_total, row-IsAntisymmetric}
 use Rattle.wh_meaning.specs.Query.{Call}
@@ -16,7 +16,7 @@ use Rattle.wh_meaning.proofs.KeyMaps.{gotten, map_after}
 use Rattle.wh_scalar.specs.declared.fault.EvalFault.{EvalFault}
 use Rattle.wh_aggregate.specs.Given.{Leaves}
 use Rattle.wh_aggregate.proofs.FaultLemmas.{still}
-use Rattle.wh_maintenance.specs.Standing.{Standing, Groups}
+use Rattle.wh_maintenance.specs.Standing.{Standing}
 use Rattle.wh_group.specs.Moves.{Move, Moves, begun_move, taken, noted}
 use Rattle.wh_group.specs.declared.moving.Side.{Side}
 
@@ -45,19 +45,18 @@ module _ (side : Side) (calls : List Call) (row key : Row) (m n : List (Row × M
   pub not_noted : taken side calls row old ≡ None → noted side calls row key moves ≡ None
   not_noted none = noted_as ∙ ap (option_map (insert (from_entries m) key)) none
 
-module _ (m n : List (Row × Standing)) (groups : Groups) (is : from_entries m ≡ groups) (key : Row) where
+module _ (m n : List (Row × Standing)) (key : Row) where
   pub set_after : (s : Standing) → ((q : Row)
       → lookup (is_at (row_cmp q)) n ≡ cond (is_eq (row_cmp key q)) (Some s) (lookup (is_at (row_cmp q)) m))
-      → from_entries n ≡ insert groups key s
-  set_after s has = map_after row_total row-IsAntisymmetric m n key s has ∙ ap (λ g. insert g key s) is
+      → from_entries {R = row_cmp} n ≡ insert (from_entries m) key s
+  set_after s has = map_after row_total row-IsAntisymmetric m n key s has
 
   pub gone_after : ((q : Row)
       → lookup (is_at (row_cmp q)) n ≡ cond (is_eq (row_cmp key q)) None (lookup (is_at (row_cmp q)) m))
-      → from_entries n ≡ remove groups key
+      → from_entries {R = row_cmp} n ≡ remove (from_entries m) key
   gone_after has = same_map row_total row-IsAntisymmetric _ _ (λ q.
       gotten row_total n q
       ∙ has q
       ∙ ap (λ b. cond b None (lookup (is_at (row_cmp q)) m)) ((eq_by_cmp_equiv row_total).symm key q)
       ∙ ap (cond (is_eq (row_cmp q key)) None) (sym (gotten row_total m q))
-      ∙ sym (get-remove row_total (from_entries m) key q)
-      ∙ ap (λ g. get (remove g key) q) is)
+      ∙ sym (get-remove row_total (from_entries m) key q))

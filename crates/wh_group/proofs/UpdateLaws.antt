@@ -26,7 +26,7 @@ use Rattle.wh_maintenance.proofs.Standing.{standing-none, empty_bag}
 use Rattle.wh_maintenance.proofs.Undefined.{gathered_none_at, goes_told}
 use Rattle.wh_group.specs.Tally.{begun_standing, tallied, stepped}
 use Rattle.wh_group.specs.Moves.{Move, Moves, begun_move, move_at}
-use Rattle.wh_group.specs.Entries.{set_all}
+use Rattle.wh_maintenance.specs.Entries.{set_all}
 use Rattle.wh_group.specs.Settling.{now_at, befores, afters, pair, IsSettled}
 use Rattle.wh_group.specs.Updates.{change_of, StandIn, IsUpdated}
 use Rattle.wh_group.specs.declared.settling.Updated.{Updated}

@@ -8,10 +8,10 @@ use Rattle.wh_value.specs.Value.{Row}
 use Rattle.wh_meaning.specs.Scalar.{of_two}
 use Rattle.wh_meaning.specs.Query.{Call}
 use Rattle.wh_maintenance.specs.Standing.{Groups}
+use Rattle.wh_maintenance.specs.Entries.{GroupEntry}
 use Rattle.wh_group.specs.Moves.{Move}
 use Rattle.wh_group.specs.Settling.{now_at, shown_rows, appended, befores, afters, pair, Notes, IsEntered}
 use Rattle.wh_group.specs.Settling.{AreChanges, IsSettled}
-use Rattle.wh_group.specs.declared.groups.Entry.{Entry}
 use Rattle.wh_group.specs.declared.settling.Updated.{Updated}
 
 next_rows : (old new : List Row) (first rest : Option (List Row))
@@ -46,7 +46,7 @@ module _ (calls : List Call) (groups : Groups) (all : List (Row × Move)) where
   pub record IsSettling (left : List (Row × Move)) (u : Updated) : Type 0 where
     pub goes : befores calls groups all ≡ option_map (λ more. u.goes.items ++ more) (befores calls groups left)
     pub comes : afters calls groups all ≡ option_map (λ more. u.comes.items ++ more) (afters calls groups left)
-    pub changes : (xs : List Entry) → AreChanges calls groups left xs
+    pub changes : (xs : List GroupEntry) → AreChanges calls groups left xs
         → AreChanges calls groups all (u.entries.items ++ xs)
 
   all_left : (found : Option (List Row)) (old : List Row) → old ≡ [] → found ≡ option_map (λ more. old ++ more) found
@@ -61,19 +61,19 @@ module _ (calls : List Call) (groups : Groups) (all : List (Row × Move)) where
     changes = λ xs h. subst (λ es. AreChanges calls groups all (es ++ xs)) (sym x) h;
   }
 
-  kept_as : (e : Row × Move) (left : List (Row × Move)) (xs : List Entry) → now_at calls groups e ≡ get groups e.0
+  kept_as : (e : Row × Move) (left : List (Row × Move)) (xs : List GroupEntry) → now_at calls groups e ≡ get groups e.0
       → AreChanges calls groups left xs → AreChanges calls groups (e ∷ left) xs
   kept_as e left [] same h = (same, h)
   kept_as e left (x ∷ xs) same h = inl (same, h)
 
-  noted_more : (e : Row × Move) (left : List (Row × Move)) (old new : List Entry)
-      → ((xs : List Entry) → AreChanges calls groups (e ∷ left) xs → AreChanges calls groups all (old ++ xs))
-      → Notes e.0 (get groups e.0) (now_at calls groups e) old new → (xs : List Entry) → AreChanges calls groups left xs
+  noted_more : (e : Row × Move) (left : List (Row × Move)) (old new : List GroupEntry)
+      → ((xs : List GroupEntry) → AreChanges calls groups (e ∷ left) xs → AreChanges calls groups all (old ++ xs))
+      → Notes e.0 (get groups e.0) (now_at calls groups e) old new → (xs : List GroupEntry) → AreChanges calls groups left xs
       → AreChanges calls groups all (new ++ xs)
   noted_more e left old new so_far (inl same) xs h =
       subst (λ es. AreChanges calls groups all (es ++ xs)) (sym same.1) (so_far xs (kept_as e left xs same.0 h))
   noted_more e left old new so_far (inr other) xs h =
-      let x : Entry = record { key = e.0; group = now_at calls groups e } in
+      let x : GroupEntry = record { key = e.0; group = now_at calls groups e } in
       subst (AreChanges calls groups all) (sym (ap (λ es. es ++ xs) other.1 ∙ append_assoc old (x ∷ []) xs))
       (so_far (x ∷ xs) (inr ((other.0, refl, refl), h)))
 

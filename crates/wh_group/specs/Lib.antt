@@ -1,7 +1,8 @@
 pub mod Standing
+pub mod Grouping
 pub mod Tally
 pub mod Moves
 pub mod Moved
-pub mod Entries
+pub mod Slots
 pub mod Settling
 pub mod Updates

@@ -9,10 +9,10 @@ use Rattle.wh_value.specs.Value.{Row}
 use Rattle.wh_meaning.specs.Scalar.{of_two}
 use Rattle.wh_meaning.specs.Query.{Call, Total}
 use Rattle.wh_maintenance.specs.Standing.{Standing, Groups, answers, moved, if_left, standing_at}
+use Rattle.wh_maintenance.specs.Entries.{GroupEntry}
 use Rattle.wh_scalar.specs.declared.fault.EvalFault.{EvalFault}
 use Rattle.wh_aggregate.specs.Given.{IsFaultOf}
 use Rattle.wh_group.specs.Moves.{Move}
-use Rattle.wh_group.specs.declared.groups.Entry.{Entry}
 use Rattle.wh_group.specs.declared.settling.Updated.{Updated}
 
 abbrev pub now_at : List Call → Groups → Row × Move → Option Standing
@@ -42,7 +42,7 @@ pair rows more = Some (rows, more)
 -- ---- one group
 
 -- what stands at a key is noted, if it isn't as before
-abbrev pub Notes : Row → Option Standing → Option Standing → List Entry → List Entry → Type 0
+abbrev pub Notes : Row → Option Standing → Option Standing → List GroupEntry → List GroupEntry → Type 0
 Notes key was now old new =
     ((now ≡ was) × (new ≡ old)) ⊎ ((now ≢ was) × (new ≡ old ++ record { key = key; group = now } ∷ []))
 
@@ -59,10 +59,10 @@ Enters (Err fault) calls groups e old new = IsFaultOf fault
 
 -- ---- the groups of all keys
 
-abbrev pub IsChange : List Call → Groups → Row × Move → Entry → Type 0
+abbrev pub IsChange : List Call → Groups → Row × Move → GroupEntry → Type 0
 IsChange calls groups e x = (now_at calls groups e ≢ get groups e.0) × (x.key ≡ e.0) × (x.group ≡ now_at calls groups e)
 
-abbrev pub AreChanges : List Call → Groups → List (Row × Move) → List Entry → Type 0
+abbrev pub AreChanges : List Call → Groups → List (Row × Move) → List GroupEntry → Type 0
 AreChanges calls groups [] [] = Unit {0}
 AreChanges calls groups [] (x ∷ xs) = ⊥
 AreChanges calls groups (e ∷ es) [] = (now_at calls groups e ≡ get groups e.0) × AreChanges calls groups es []

@@ -13,8 +13,7 @@ use Rattle.wh_meaning.specs.Bag.{Bag, bag_of, count}
 use Rattle.wh_meaning.specs.Query.{Call}
 use Rattle.wh_maintenance.specs.Carried.{Change}
 use Rattle.wh_maintenance.specs.Standing.{Groups, IsMovedTo, LacksKey, LacksArgument}
-use Rattle.wh_group.specs.Entries.{set_all}
-use Rattle.wh_group.specs.declared.groups.Entry.{Entry}
+use Rattle.wh_maintenance.specs.Entries.{GroupEntry, set_all}
 use Rattle.wh_group.specs.declared.settling.Updated.{Updated}
 
 abbrev pub change_of : List Row → List Row → Change
@@ -23,7 +22,7 @@ change_of comes goes = record { comes = bag_of comes; goes = bag_of goes }
 abbrev pub StandIn : Bag → Bag → Type 0
 StandIn goes b = (row : Row) → 0 < count goes row → 0 < count b row
 
-abbrev pub keys_of : List Entry → List Row
+abbrev pub keys_of : List GroupEntry → List Row
 keys_of entries = map (λ x. x.key) entries
 
 pub record IsUpdated (by : List Scalar) (calls : List Call) (c : Change) (groups : Groups) (u : Updated)

@@ -1,6 +1,7 @@
 //! Kept groups: what a Group's calls have added up, moved by the rows that come and go.
 #![tactic(auto)]
 
+mod grouping;
 mod groups;
 mod moved;
 mod moving;
@@ -13,6 +14,7 @@ mod updating;
 #[cfg(test)]
 mod worked;
 
+pub use grouping::{Grouping, grouping_of, is_linear};
 pub use groups::{Entry, Groups};
 pub use settling::Updated;
 pub use standing::{Standing, Total};

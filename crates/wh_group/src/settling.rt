@@ -3,6 +3,7 @@ ghost use Rattle.std.specs.Prelude.{OnOk};
 ghost use Rattle.std.specs.Option.{option_copied};
 ghost use Rattle.std.specs.FinMap as maps;
 ghost use Rattle.wh_algebra.specs.View.{calls_of};
+ghost use Rattle.wh_group.specs.Slots.{kept_groups};
 ghost use Rattle.wh_group.specs.Settling.{Settles, Enters, Notes};
 
 use crate::groups::{Entry, Groups};
@@ -32,7 +33,7 @@ pub(crate) fn settled(
     groups: &Groups,
     touched: Touched,
 ) -> Result<Updated, EvalFault>
-    ensures { Settles result (calls_of calls.now) groups.now (maps.entries touched) }
+    ensures { Settles result (calls_of calls.now) (kept_groups groups.now) (maps.entries touched) }
 {
     let Touched { map } = touched;
     let mut updated = Updated {
@@ -55,7 +56,7 @@ fn settle(
     moving: &Moving,
     updated: &mut Updated,
 ) -> Result<(), EvalFault>
-    ensures { Enters result (calls_of calls.now) groups.now (key, moving.now)
+    ensures { Enters result (calls_of calls.now) (kept_groups groups.now) (key, moving.now)
         updated.old updated.new }
 {
     let was = groups.get(&key);

@@ -3,10 +3,10 @@
 --     table_after, dynamic_after      so its rows, and what a dynamic table has beside them
 --     bound_after             what a query binds to stays
 --     refreshed_rows, refreshed_between     the rows of a table for the moment that it was brought to, and its versions
-use Rattle.std.proofs.Common.{◌≡◌, ℕ, zero, suc, ◌<◌, ◌≤◌, ◌⊎◌, inl, inr, Bool, true, false, cond, List, [], ◌∷◌, ◌++◌, map}
+use Rattle.std.proofs.Common.{◌≡◌, ℕ, ◌≤◌, ◌⊎◌, inl, inr, Bool, true, false, cond, List, [], ◌∷◌, ◌++◌, map}
 use Rattle.std.proofs.Common.{Option, Some, None, option_map, refl, sym, ap, ◌∙◌, arith}
-use Rattle.std.specs.Prelude.{nat_eq, nat_le, nat_lt, ◌&&◌, ◌||◌, if◌then◌else◌}
-use Rattle.std.specs.List.{AllByRecursion, filter, flat_map, list_any}
+use Rattle.std.specs.Prelude.{nat_eq, nat_le, nat_lt, ◌&&◌, ◌||◌}
+use Rattle.std.specs.List.{filter, flat_map, list_any}
 use Rattle.std.specs.Option.{option_and_then, option_map_or}
 use Rattle.std.proofs.lemmas.Bool.Decides.{nat_tests}
 use Rattle.wh_value.specs.Column.{Column}
@@ -14,12 +14,12 @@ use Rattle.wh_naming.specs.Scope.{Named, ObjectKind}
 use Rattle.wh_naming.specs.Select.{bound_query}
 use Rattle.wh_state.specs.State.{Version, Table, Kind, TableKind, StreamKind, TaskKind, DynamicKind, Object, at_id}
 use Rattle.wh_state.specs.State.{changed_at, put_at, last_of, last_rows, rows_at, nothing_held, content_in, columns_in}
-use Rattle.wh_state.specs.State.{last_content, version_for, table_in, dynamic_in, on_dynamic}
-use Rattle.wh_state.specs.Dynamic.{Source, DynamicQuery, Dynamic, with_dynamic_state}
+use Rattle.wh_state.specs.State.{version_for, table_in, on_dynamic}
+use Rattle.wh_state.specs.Dynamic.{Source, DynamicQuery, Dynamic, GroupsChange, with_dynamic_state}
 use Rattle.wh_state.specs.Objects.{as_table, as_dynamic, table_at, dynamic_at}
 use Rattle.wh_state.specs.Bound.{source_kind, named_as, names_among, query_bound}
 use Rattle.wh_state.specs.Edits.{Edits}
-use Rattle.wh_state.specs.Act.{Act, PutsDynamic, RefreshesRows, acted, all_acted, edited_table, edited_kind, edited_object}
+use Rattle.wh_state.specs.Act.{Act, PutsDynamic, acted, all_acted, edited_table, refreshed_object}
 use Rattle.wh_state.specs.Act.{on_dynamic_object, next_contents}
 use Rattle.wh_state.proofs.IdLaws.{map_at, map_changed, with_same, at_spared, last_more}
 use Rattle.wh_state.proofs.FoundLaws.{at_same, same_or_not}
@@ -56,13 +56,14 @@ after_last stamp moment bs b objects =
 
 -- ---- what stands at an id
 
-abbrev pub rows_brought : ℕ → ℕ → Option Edits → Object → Object
-rows_brought stamp moment None o = o
-rows_brought stamp moment (Some e) o = edited_object stamp moment e o
+-- behind its version, if there is one, and what that does to its groups
+abbrev pub rows_brought : ℕ → ℕ → Option Edits → Option GroupsChange → Object → Object
+rows_brought stamp moment None c o = o
+rows_brought stamp moment (Some e) c o = refreshed_object stamp moment e c o
 
 abbrev pub object_brought : ℕ → ℕ → Brought → Object → Object
 object_brought stamp moment b o =
-    on_dynamic_object (with_dynamic_state b.state) (rows_brought stamp moment b.edits o)
+    on_dynamic_object (with_dynamic_state b.state) (rows_brought stamp moment b.edits b.groups o)
 
 at_changed : {X : Type 0} (f : X → X) (xs : List X) (id : ℕ)
     → at_id (changed_at xs id f) id ≡ option_map f (at_id xs id)
@@ -77,13 +78,13 @@ one_spared : (stamp moment : ℕ) (b : Brought) (objects : List Object) (id : �
 one_spared stamp moment b objects id apart = by_edits b.edits
   where
     by_edits : (found : Option Edits)
-        → at_id (all_acted stamp objects (version_acts b.id moment found ++ PutsDynamic b.id b.state ∷ [])) id
+        → at_id (all_acted stamp objects (version_acts b.id moment found b.groups ++ PutsDynamic b.id b.state ∷ [])) id
         ≡ at_id objects id
     by_edits None = at_spared (on_dynamic_object (with_dynamic_state b.state)) objects b.id id apart
     by_edits (Some e) =
         at_spared (on_dynamic_object (with_dynamic_state b.state))
-        (changed_at objects b.id (edited_object stamp moment e)) b.id id apart
-        ∙ at_spared (edited_object stamp moment e) objects b.id id apart
+        (changed_at objects b.id (refreshed_object stamp moment e b.groups)) b.id id apart
+        ∙ at_spared (refreshed_object stamp moment e b.groups) objects b.id id apart
 
 one_here : (stamp moment : ℕ) (b : Brought) (objects : List Object)
     → at_id (after_one stamp moment b objects) b.id ≡ option_map (object_brought stamp moment b) (at_id objects b.id)
@@ -98,13 +99,13 @@ one_here stamp moment b objects = by_edits b.edits
     twice f (Some o) = refl
 
     by_edits : (found : Option Edits)
-        → at_id (all_acted stamp objects (version_acts b.id moment found ++ PutsDynamic b.id b.state ∷ [])) b.id
-        ≡ option_map (λ o. puts (rows_brought stamp moment found o)) (at_id objects b.id)
+        → at_id (all_acted stamp objects (version_acts b.id moment found b.groups ++ PutsDynamic b.id b.state ∷ [])) b.id
+        ≡ option_map (λ o. puts (rows_brought stamp moment found b.groups o)) (at_id objects b.id)
     by_edits None = at_changed puts objects b.id
     by_edits (Some e) =
-        at_changed puts (changed_at objects b.id (edited_object stamp moment e)) b.id
-        ∙ ap (option_map puts) (at_changed (edited_object stamp moment e) objects b.id)
-        ∙ twice (edited_object stamp moment e) (at_id objects b.id)
+        at_changed puts (changed_at objects b.id (refreshed_object stamp moment e b.groups)) b.id
+        ∙ ap (option_map puts) (at_changed (refreshed_object stamp moment e b.groups) objects b.id)
+        ∙ twice (refreshed_object stamp moment e b.groups) (at_id objects b.id)
 
 none_above : (least id : ℕ) (bs : List Brought) → id ≤ least → AreAbove least bs → sought id bs ≡ None
 none_above least id [] below above = refl
@@ -157,7 +158,7 @@ table_after stamp moment least bs objects id above =
     ∙ by_sought (sought id bs) (at_id objects id)
   where
     by_kind : (b : Brought) (edits : Option Edits) (o : Object) (k : Kind)
-        → table_in (on_dynamic (with_dynamic_state b.state) (rows_brought stamp moment edits (record o { kind = k })).kind)
+        → table_in (on_dynamic (with_dynamic_state b.state) (rows_brought stamp moment edits b.groups (record o { kind = k })).kind)
         ≡ table_brought stamp moment edits (table_in k)
     by_kind b None o (TableKind t) = refl
     by_kind b None o (StreamKind s) = refl
@@ -225,11 +226,13 @@ shapes_stay f same objects id =
         ap (λ (q : Option Shape). put_at (map shape_of objects) id (option_map (λ p. p) q)) there
         ∙ with_same (map shape_of objects) id p there
 
-edit_shape : (stamp moment : ℕ) (e : Edits) (o : Object) → shape_of (edited_object stamp moment e o) ≡ shape_of o
+edit_shape : (stamp moment : ℕ) (e : Edits) (c : Option GroupsChange) (o : Object)
+    → shape_of (refreshed_object stamp moment e c o) ≡ shape_of o
 unfolding edited_table
-edit_shape stamp moment e o = by_kind o.kind
+edit_shape stamp moment e c o = by_kind o.kind
   where
-    by_kind : (k : Kind) → shape_of (edited_object stamp moment e (record o { kind = k })) ≡ shape_of (record o { kind = k })
+    by_kind : (k : Kind)
+        → shape_of (refreshed_object stamp moment e c (record o { kind = k })) ≡ shape_of (record o { kind = k })
     by_kind (TableKind t) = refl
     by_kind (StreamKind s) = refl
     by_kind (TaskKind t) = refl
@@ -249,12 +252,12 @@ one_shape : (stamp moment : ℕ) (b : Brought) (objects : List Object)
 one_shape stamp moment b objects = by_edits b.edits
   where
     by_edits : (found : Option Edits)
-        → map shape_of (all_acted stamp objects (version_acts b.id moment found ++ PutsDynamic b.id b.state ∷ []))
+        → map shape_of (all_acted stamp objects (version_acts b.id moment found b.groups ++ PutsDynamic b.id b.state ∷ []))
         ≡ map shape_of objects
     by_edits None = shapes_stay _ (put_shape (with_dynamic_state b.state)) objects b.id
     by_edits (Some e) =
-        shapes_stay _ (put_shape (with_dynamic_state b.state)) (changed_at objects b.id (edited_object stamp moment e)) b.id
-        ∙ shapes_stay _ (edit_shape stamp moment e) objects b.id
+        shapes_stay _ (put_shape (with_dynamic_state b.state)) (changed_at objects b.id (refreshed_object stamp moment e b.groups)) b.id
+        ∙ shapes_stay _ (edit_shape stamp moment e b.groups) objects b.id
 
 all_shape : (stamp moment : ℕ) (bs : List Brought) (objects : List Object)
     → map shape_of (after_all stamp moment bs objects) ≡ map shape_of objects

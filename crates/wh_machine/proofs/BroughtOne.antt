@@ -20,13 +20,13 @@ use Rattle.wh_state.specs.Dynamic.{DynamicState, Dynamic, ids_read, with_dynamic
 use Rattle.wh_state.specs.Objects.{as_table, as_dynamic, table_at, dynamic_at}
 use Rattle.wh_state.specs.Edits.{Edits}
 use Rattle.wh_state.specs.Moments.{bag_at, evaluated_at}
-use Rattle.wh_state.specs.Act.{PutsDynamic, edited_object, on_dynamic_object, all_acted}
+use Rattle.wh_state.specs.Act.{PutsDynamic, refreshed_object, on_dynamic_object, all_acted}
 use Rattle.wh_state.specs.Sound.{IsSoundDynamic}
 use Rattle.wh_state.proofs.AllLaws.{filter_same}
 use Rattle.wh_state.proofs.IdLaws.{at_spared}
 use Rattle.wh_state.proofs.FoundLaws.{at_same}
 use Rattle.wh_state.proofs.VersionLaws.{last_below}
-use Rattle.wh_state.proofs.EvaluatedLaws.{StandAt, evaluated_same}
+use Rattle.wh_state.proofs.EvaluatedLaws.{StandAt}
 use Rattle.wh_state.proofs.SoundObjects.{IsKept, IsDynamicAt, found_dynamic, dynamic_there, sound_at}
 use Rattle.wh_state.proofs.SoundTables.{IsFresh}
 use Rattle.wh_state.proofs.SoundLaws.{MayPut, MayRefreshKind, MayRefresh, AreKeeping, no_act, put_act}
@@ -37,8 +37,9 @@ use Rattle.wh_moment.proofs.RebaseLaws.{rebased}
 use Rattle.wh_machine.specs.Refresh.{has_version_between, has_new_data, action_of, Brought, brought_as}
 use Rattle.wh_machine.specs.Refresh.{brought_by, brought_with, brought_one, acts_of_one}
 use Rattle.wh_machine.specs.Refresh.{by_mode}
-use Rattle.wh_machine.specs.Refresh.{version_acts}
+use Rattle.wh_machine.specs.Refresh.{version_acts, groups_brought}
 use Rattle.wh_machine.proofs.GotLaws.{entries_hold}
+use Rattle.wh_machine.proofs.GroupsBrought.{groups_kept}
 
 -- ---- nothing new
 
@@ -102,20 +103,24 @@ record IsOne (stamp : ℕ) (objects : List Object) (id : ℕ) (d : Dynamic) (t :
 refreshes_one : (stamp moment : ℕ) (objects : List Object) (id : ℕ) (d : Dynamic) (t : Table) (rows : Bag)
     → moment ≤ stamp → IsOne stamp objects id d t → IsReadyTo moment objects d
     → evaluated_at objects moment d ≡ Some rows
-    → MayRefresh stamp objects id moment (rebase (last_rows t) rows) (brought_to moment d.state)
+    → MayRefresh stamp objects id moment (rebase (last_rows t) rows) (groups_brought objects moment d)
+    (brought_to moment d.state)
 refreshes_one stamp moment objects id d t rows within one ready is =
-    subst (λ (found : Option Object). IsSomeAnd found (λ o.
-    MayRefreshKind stamp objects moment (rebase (last_rows t) rows) (brought_to moment d.state) o.kind)) (sym one.there)
-    (subst (MayRefreshKind stamp objects moment (rebase (last_rows t) rows) (brought_to moment d.state)) (sym one.kind)
-    (record {
+    subst (λ (found : Option Object). IsSomeAnd found (λ o. May o.kind)) (sym one.there)
+    (subst May (sym one.kind) (record {
       fresh = one.fresh;
       later = ready.0;
       within = within;
       sources = ready.1;
       rows = is ∙ ap Some (sym (rebased t.next_row (last_rows t) rows (rows_below stamp objects d t one.sound)));
+      groups = groups_kept stamp moment objects d t rows one.sound is;
       brought = refl;
       tried = omega arith;
     }))
+  where
+    May : Kind → Type 0
+    May = MayRefreshKind stamp objects moment (rebase (last_rows t) rows) (groups_brought objects moment d)
+        (brought_to moment d.state)
 
 -- a table that has stood for a moment before, and finds nothing new
 leaves_one : (stamp moment : ℕ) (objects : List Object) (id : ℕ) (d : Dynamic) → moment ≤ stamp → 0 < d.state.moment
@@ -128,8 +133,7 @@ leaves_one stamp moment objects id d within some ready none = record {
     later = omega (arith, ready.0);
     within = within;
     sources = ready.1;
-    same = evaluated_same objects objects d.state.moment moment d refl
-        (rows_same objects d.state.moment moment (omega (arith, ready.0)) (ids_read d.query) none);
+    same = rows_same objects d.state.moment moment (omega (arith, ready.0)) (ids_read d.query) none;
   });
 }
 
@@ -137,11 +141,13 @@ leaves_one stamp moment objects id d within some ready none = record {
 evaluated_keeps : (stamp moment : ℕ) (objects : List Object) (id : ℕ) (d : Dynamic) (t : Table) (b : Brought)
     (action : RefreshAction) (found : Option Bag) → moment ≤ stamp → IsOne stamp objects id d t
     → IsReadyTo moment objects d → evaluated_at objects moment d ≡ found
-    → option_map (λ rows. brought_as id moment d.state action (Some (rebase (last_rows t) rows))) found ≡ Some b
+    → option_map (λ rows. brought_as id moment d.state action (Some (rebase (last_rows t) rows))
+    (groups_brought objects moment d)) found ≡ Some b
     → AreKeeping stamp objects (acts_of_one moment b)
 evaluated_keeps stamp moment objects id d t b action None within one ready found is = absurd cc
 evaluated_keeps stamp moment objects id d t b action (Some rows) within one ready found is =
-    let same : brought_as id moment d.state action (Some (rebase (last_rows t) rows)) ≡ b = cc in
+    let same : brought_as id moment d.state action (Some (rebase (last_rows t) rows)) (groups_brought objects moment d)
+    ≡ b = cc in
     subst (λ (x : Brought). AreKeeping stamp objects (acts_of_one moment x)) same
     (refresh_acts (refreshes_one stamp moment objects id d t rows within one ready found) no_act)
 
@@ -149,10 +155,10 @@ evaluated_keeps stamp moment objects id d t b action (Some rows) within one read
 leaving_keeps : (stamp moment : ℕ) (objects : List Object) (id : ℕ) (d : Dynamic) (b : Brought) → moment ≤ stamp
     → dynamic_at objects id ≡ Some d → 0 < d.state.moment → IsReadyTo moment objects d
     → has_new_data objects d.state.moment moment (ids_read d.query) ≡ false
-    → Some (brought_as id moment d.state NoData None) ≡ Some b
+    → Some (brought_as id moment d.state NoData None None) ≡ Some b
     → AreKeeping stamp objects (acts_of_one moment b)
 leaving_keeps stamp moment objects id d b within at some ready none is =
-    let same : brought_as id moment d.state NoData None ≡ b = cc in
+    let same : brought_as id moment d.state NoData None None ≡ b = cc in
     subst (λ (x : Brought). AreKeeping stamp objects (acts_of_one moment x)) same
     (put_act (subst (λ (found : Option Dynamic). IfSome found (MayPut stamp objects (brought_to moment d.state)))
     (sym at) (leaves_one stamp moment objects id d within some ready none)) no_act)
@@ -223,12 +229,12 @@ one_spares stamp moment objects b other apart = by_edits b.edits
     put = on_dynamic_object (with_dynamic_state b.state)
 
     by_edits : (edits : Option Edits)
-        → at_id (all_acted stamp objects (version_acts b.id moment edits ++ PutsDynamic b.id b.state ∷ [])) other
+        → at_id (all_acted stamp objects (version_acts b.id moment edits b.groups ++ PutsDynamic b.id b.state ∷ [])) other
         ≡ at_id objects other
     by_edits None = at_spared put objects b.id other apart
     by_edits (Some e) =
-        at_spared put (changed_at objects b.id (edited_object stamp moment e)) b.id other apart
-        ∙ at_spared (edited_object stamp moment e) objects b.id other apart
+        at_spared put (changed_at objects b.id (refreshed_object stamp moment e b.groups)) b.id other apart
+        ∙ at_spared (refreshed_object stamp moment e b.groups) objects b.id other apart
 
 -- a state that is put in is there
 put_stands : (objects : List Object) (id : ℕ) (state : DynamicState)
@@ -262,10 +268,10 @@ pub one_stands : (stamp moment : ℕ) (objects : List Object) (b : Brought)
 one_stands stamp moment objects b = by_edits b.edits
   where
     by_edits : (edits : Option Edits)
-        → IfSome (dynamic_at (all_acted stamp objects (version_acts b.id moment edits ++ PutsDynamic b.id b.state ∷ []))
+        → IfSome (dynamic_at (all_acted stamp objects (version_acts b.id moment edits b.groups ++ PutsDynamic b.id b.state ∷ []))
         b.id) (λ e. e.state.moment ≡ b.state.moment)
     by_edits None = put_stands objects b.id b.state
-    by_edits (Some e) = put_stands (changed_at objects b.id (edited_object stamp moment e)) b.id b.state
+    by_edits (Some e) = put_stands (changed_at objects b.id (refreshed_object stamp moment e b.groups)) b.id b.state
 
 -- what is brought stands for the moment
 pub brought_moment : (objects : List Object) (moment id : ℕ) (b : Brought) → brought_one objects moment id ≡ Some b
@@ -277,8 +283,8 @@ brought_moment objects moment id b is = by_found (dynamic_at objects id) (table_
     of_some x at is = let same : x ≡ b = cc in ap (λ (y : Brought). y.state.moment) (sym same) ∙ at
 
     by_rows : (d : Dynamic) (t : Table) (action : RefreshAction) (found : Option Bag)
-        → option_map (λ rows. brought_as id moment d.state action (Some (rebase (last_rows t) rows))) found ≡ Some b
-        → b.state.moment ≡ moment
+        → option_map (λ rows. brought_as id moment d.state action (Some (rebase (last_rows t) rows))
+        (groups_brought objects moment d)) found ≡ Some b → b.state.moment ≡ moment
     by_rows d t action None is = absurd cc
     by_rows d t action (Some rows) is = of_some _ refl is
 

@@ -1,5 +1,6 @@
 -- What is written for the tables that a refresh brings to a moment applies.
 --     IsWithinNumbers     its next numbers are within their limits
+--     MayBring            a table that may be brought to a moment
 --     OneBrought          what holds of one table that is brought; one_brought
 --     all_go              the tables one after the other
 use Rattle.std.proofs.Common.{◌≡◌, ℕ, suc, ◌+◌, ◌≤◌, false, List, [], ◌∷◌, ◌++◌, length, map, Option, Some}
@@ -14,9 +15,10 @@ use Rattle.wh_frame.specs.Partition.{Partition}
 use Rattle.wh_meaning.specs.Bag.{Bag}
 use Rattle.wh_reply.specs.Reply.{RefreshAction, NoData, Full, Incremental}
 use Rattle.wh_state.specs.State.{TableKind, StreamKind, TaskKind, DynamicKind, Object, Table, at_id, last_rows}
+use Rattle.wh_state.specs.State.{dynamic_in}
 use Rattle.wh_state.specs.Objects.{as_table, as_dynamic, table_at, dynamic_at}
 use Rattle.wh_state.specs.Edits.{Edits, partitions_made}
-use Rattle.wh_state.specs.Dynamic.{Dynamic}
+use Rattle.wh_state.specs.Dynamic.{Dynamic, GroupsChange}
 use Rattle.wh_state.specs.Moments.{evaluated_at}
 use Rattle.wh_state.specs.Act.{Act, PutsDynamic, all_acted, table_partitions_made}
 use Rattle.wh_state.specs.Stored.{StoredTable, StoredKind, StoredObject, standing, table_meant, object_meant}
@@ -28,16 +30,17 @@ use Rattle.wh_state.proofs.MeaningLaws.{at_id_meant, last_partitions_meant}
 use Rattle.wh_state.proofs.AppliesLaws.{EditsFit}
 use Rattle.wh_state.proofs.DynamicFirm.{DynamicHolds, IsFirmDynamic}
 use Rattle.wh_state.proofs.FirmLaws.{IsFirm}
-use Rattle.wh_state.proofs.WrittenLaws.{AllGo, EditStands, go_firm}
+use Rattle.wh_state.proofs.WrittenLaws.{AllGo, EditStands, go_none, go_firm}
 use Rattle.wh_state.proofs.EndLaws.{go_behind}
-use Rattle.wh_state.proofs.BroughtGoes.{StateStands, KindRefreshable, Refreshable, refresh_of, one_goes, one_leaves}
-use Rattle.wh_state.proofs.BroughtGoes.{one_means}
+use Rattle.wh_state.proofs.BroughtGoes.{StateStands, KindRefreshable, Refreshable, GroupsStand, refresh_of, one_goes}
+use Rattle.wh_state.proofs.BroughtGoes.{one_leaves, one_means}
 use Rattle.wh_moment.specs.Moment.{brought_to}
 use Rattle.wh_moment.specs.Rebase.{rebase}
 use Rattle.wh_moment.proofs.UpstreamLaws.{RiseFrom}
 use Rattle.wh_machine.specs.Refresh.{Brought, brought_as, brought_by, brought_with, brought_one, action_of}
-use Rattle.wh_machine.specs.Refresh.{version_acts}
+use Rattle.wh_machine.specs.Refresh.{version_acts, groups_brought}
 use Rattle.wh_machine.specs.Refresh.{acts_of_one, brought_then, brought_all, is_row_past, is_partition_past}
+use Rattle.wh_machine.proofs.GroupsBrought.{HasItsGroups, takes_change}
 use Rattle.wh_machine.proofs.RebaseLaws.{rebase_fits}
 use Rattle.wh_machine.proofs.EvaluatedLaws.{evaluated_fits}
 use Rattle.wh_machine.proofs.RefreshLaws.{brought_id, brought_ids}
@@ -50,6 +53,11 @@ pub record IsWithinNumbers (objects : List Object) (b : Brought) : Type 0 where
 pub record OneBrought (objects : List StoredObject) (moment id : ℕ) (b : Brought) : Type 0 where
   pub state : FoundAt (StateStands b.state) objects id
   pub edits : IfSome b.edits (λ e. FoundAt (EditStands moment e) objects id)
+  pub groups : IfSome b.edits (λ e. FoundAt (GroupsStand b.groups) objects id)
+
+-- with the groups that are kept of it
+abbrev pub MayBring : ℕ → StoredObject → Type 0
+MayBring moment o = Refreshable moment o × IfSome (dynamic_in o.kind) HasItsGroups
 
 -- ---- one table
 
@@ -59,7 +67,7 @@ not_less a b test = grind (arith, nat_tests)
 -- of an object that is a dynamic table
 module _ (objects : List StoredObject) (moment id : ℕ) (o : StoredObject) (d : Dynamic) (t : StoredTable)
     (there : at_id objects id ≡ Some (record o { kind = DynamicKind d t })) (live : IsTrue o.is_live)
-    (refreshable : KindRefreshable moment (DynamicKind d t)) (firm : IsFirm objects) where
+    (refreshable : KindRefreshable moment (DynamicKind d t)) (stood : HasItsGroups d) (firm : IsFirm objects) where
   abbrev meant : List Object
   meant = map object_meant objects
 
@@ -109,12 +117,19 @@ module _ (objects : List StoredObject) (moment id : ℕ) (o : StoredObject) (d :
         },
       )
 
+  abbrev groups : Option GroupsChange
+  groups = groups_brought meant moment d
+
+  groups_now : FoundAt (GroupsStand groups) objects id
+  groups_now = found_some (GroupsStand groups) objects id (record o { kind = DynamicKind d t }) there
+      (takes_change meant moment d stood)
+
   by_rows : (action : RefreshAction) (b : Brought) (found : Option Bag) → evaluated_at meant moment d ≡ found
-      → option_map (λ rows. brought_as id moment d.state action (Some (rebase (last_rows (table_meant t)) rows))) found
-      ≡ Some b → IsWithinNumbers meant b → OneBrought objects moment id b
+      → option_map (λ rows. brought_as id moment d.state action (Some (rebase (last_rows (table_meant t)) rows))
+      groups) found ≡ Some b → IsWithinNumbers meant b → OneBrought objects moment id b
   by_rows action b None evaluated is within = absurd cc
   by_rows action b (Some rows) evaluated is within =
-      let x : Brought = brought_as id moment d.state action (Some (rebase (last_rows (table_meant t)) rows)) in
+      let x : Brought = brought_as id moment d.state action (Some (rebase (last_rows (table_meant t)) rows)) groups in
       let same : x ≡ b = cc in
       subst (OneBrought objects moment id) same (record {
         state = state_now;
@@ -122,13 +137,14 @@ module _ (objects : List StoredObject) (moment id : ℕ) (o : StoredObject) (d :
             (subst (IsWithinNumbers meant) (sym same) within)
             (rebase_fits t.columns (last_rows (table_meant t)) rows
             (evaluated_fits objects moment d t.columns firm.tables firm_now rows evaluated));
+        groups = groups_now;
       })
 
   by_action : (action : RefreshAction) (b : Brought) → brought_by meant moment id d (table_meant t) action ≡ Some b
       → IsWithinNumbers meant b → OneBrought objects moment id b
   by_action NoData b is within =
-      let same : brought_as id moment d.state NoData None ≡ b = cc in
-      subst (OneBrought objects moment id) same (record { state = state_now; edits = tt })
+      let same : brought_as id moment d.state NoData None None ≡ b = cc in
+      subst (OneBrought objects moment id) same (record { state = state_now; edits = tt; groups = tt })
   by_action Full b is within = by_rows Full b (evaluated_at meant moment d) refl is within
   by_action Incremental b is within = by_rows Incremental b (evaluated_at meant moment d) refl is within
 
@@ -142,31 +158,34 @@ module _ (objects : List StoredObject) (moment id : ℕ) (o : StoredObject) (d :
       within
 
 pub one_brought : (objects : List StoredObject) (moment id : ℕ) → IsFirm objects
-    → FoundAt (Refreshable moment) objects id
+    → FoundAt (MayBring moment) objects id
     → (b : Brought) → brought_one (map object_meant objects) moment id ≡ Some b
     → IsWithinNumbers (map object_meant objects) b → OneBrought objects moment id b
-one_brought objects moment id firm refreshable b is within = by_found (at_id objects id) refl refreshable
+one_brought objects moment id firm may b is within = by_found (at_id objects id) refl may
   where
     by_kind : (o : StoredObject) (k : StoredKind) → at_id objects id ≡ Some (record o { kind = k }) → IsTrue o.is_live
-        → KindRefreshable moment k → OneBrought objects moment id b
-    by_kind o (TableKind t) there live can = absurd can
-    by_kind o (StreamKind s) there live can = absurd can
-    by_kind o (TaskKind t) there live can = absurd can
-    by_kind o (DynamicKind d t) there live can = of_dynamic objects moment id o d t there live can firm b is within
+        → KindRefreshable moment k → IfSome (dynamic_in k) HasItsGroups → OneBrought objects moment id b
+    by_kind o (TableKind t) there live can stood = absurd can
+    by_kind o (StreamKind s) there live can stood = absurd can
+    by_kind o (TaskKind t) there live can stood = absurd can
+    by_kind o (DynamicKind d t) there live can stood =
+        of_dynamic objects moment id o d t there live can stood firm b is within
 
-    by_found : (found : Option StoredObject) → at_id objects id ≡ found → IsSomeAnd found (Refreshable moment)
+    by_found : (found : Option StoredObject) → at_id objects id ≡ found → IsSomeAnd found (MayBring moment)
         → OneBrought objects moment id b
-    by_found None none can = absurd can
-    by_found (Some o) there can = by_kind o o.kind there can.0 can.1
+    by_found None none may = absurd may
+    by_found (Some o) there may = by_kind o o.kind there may.0.0 may.0.1 may.1
 
 -- ---- the tables one after the other
 
-acts_are : (moment id : ℕ) (b : Brought) → b.id ≡ id → acts_of_one moment b ≡ refresh_of id moment b.edits b.state
+acts_are : (moment id : ℕ) (b : Brought) → b.id ≡ id
+    → acts_of_one moment b ≡ refresh_of id moment b.edits b.groups b.state
 acts_are moment id b at =
-    by_edits b.edits ∙ ap (λ (n : ℕ). refresh_of n moment b.edits b.state) at
+    by_edits b.edits ∙ ap (λ (n : ℕ). refresh_of n moment b.edits b.groups b.state) at
   where
     by_edits : (edits : Option Edits)
-        → version_acts b.id moment edits ++ PutsDynamic b.id b.state ∷ [] ≡ refresh_of b.id moment edits b.state
+        → version_acts b.id moment edits b.groups ++ PutsDynamic b.id b.state ∷ []
+        ≡ refresh_of b.id moment edits b.groups b.state
     by_edits None = refl
     by_edits (Some e) = refl
 
@@ -199,7 +218,7 @@ within_kept objects new b same within = record {
 
 -- so it is of the tables of some ids
 abbrev pub TheyGo : ℕ → ℕ → List ℕ → List StoredObject → Type 0
-TheyGo stamp moment ids objects = AllByRecursion (FoundAt (Refreshable moment) objects) ids → IsFirm objects
+TheyGo stamp moment ids objects = AllByRecursion (FoundAt (MayBring moment) objects) ids → IsFirm objects
     → (all : List Brought) → brought_all stamp moment ids (map object_meant objects) ≡ Some all
     → AllByRecursion (IsWithinNumbers (map object_meant objects)) all
     → AllGo stamp objects (written stamp objects (flat_map (acts_of_one moment) all))
@@ -207,11 +226,11 @@ TheyGo stamp moment ids objects = AllByRecursion (FoundAt (Refreshable moment) o
 -- each over what those before it leave
 pub all_go : (stamp moment least : ℕ) (ids : List ℕ) (objects : List StoredObject) → RiseFrom least ids
     → TheyGo stamp moment ids objects
-all_go stamp moment least [] objects rise can firm all is within =
+all_go stamp moment least [] objects rise may firm all is within =
     let same : [] ≡ all = cc in
     subst (λ (all : List Brought). AllGo stamp objects (written stamp objects (flat_map (acts_of_one moment) all)))
-    same tt
-all_go stamp moment least (id ∷ ids) objects rise can firm all is within =
+    same (go_none stamp objects)
+all_go stamp moment least (id ∷ ids) objects rise may firm all is within =
     by_one (brought_one meant moment id) refl is (λ new. all_go stamp moment (suc id) ids new rise.1)
   where
     meant : List Object
@@ -228,26 +247,26 @@ all_go stamp moment least (id ∷ ids) objects rise can firm all is within =
         (they new still (go_firm stamp objects (written stamp objects first) goes firm) more brought_is later))
       where
         first : List Act
-        first = refresh_of id moment b.edits b.state
+        first = refresh_of id moment b.edits b.groups b.state
 
         new : List StoredObject
         new = all_changed stamp objects (written stamp objects first)
 
         goes : AllGo stamp objects (written stamp objects first)
-        goes = one_goes stamp moment objects id b.edits b.state firm one.state one.edits
+        goes = one_goes stamp moment objects id b.edits b.groups b.state firm one.state one.edits one.groups
 
         above_id : AllByRecursion (λ n. suc id ≤ n) ids
         above_id = above (suc id) ids rise.1
 
         left : (n : ℕ) → suc id ≤ n → at_id new n ≡ at_id objects n
-        left n h = one_leaves stamp moment objects id b.edits b.state n h
+        left n h = one_leaves stamp moment objects id b.edits b.groups b.state n h
 
-        still : AllByRecursion (FoundAt (Refreshable moment) new) ids
-        still = all_both (λ n. suc id ≤ n) (FoundAt (Refreshable moment) objects) (FoundAt (Refreshable moment) new)
-            (λ n h can. subst (λ found. IsSomeAnd found (Refreshable moment)) (sym (left n h)) can) ids above_id can.1
+        still : AllByRecursion (FoundAt (MayBring moment) new) ids
+        still = all_both (λ n. suc id ≤ n) (FoundAt (MayBring moment) objects) (FoundAt (MayBring moment) new)
+            (λ n h may. subst (λ found. IsSomeAnd found (MayBring moment)) (sym (left n h)) may) ids above_id may.1
 
         means : map object_meant new ≡ all_acted stamp meant first
-        means = one_means stamp moment objects id b.edits b.state firm
+        means = one_means stamp moment objects id b.edits b.groups b.state firm
 
         brought_is : brought_all stamp moment ids (map object_meant new) ≡ Some more
         brought_is = ap (brought_all stamp moment ids) (means
@@ -275,7 +294,7 @@ all_go stamp moment least (id ∷ ids) objects rise can firm all is within =
         subst (λ (all : List Brought). AllGo stamp objects
         (written stamp objects (flat_map (acts_of_one moment) all))) same
         (behind b more (brought_id meant moment id b one)
-        (one_brought objects moment id firm can.0 b one both.0) rest both.1 they)
+        (one_brought objects moment id firm may.0 b one both.0) rest both.1 they)
 
     by_one : (found : Option Brought) → brought_one meant moment id ≡ found
         → brought_then (brought_all stamp moment ids) stamp moment meant found ≡ Some all

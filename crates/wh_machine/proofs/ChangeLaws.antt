@@ -194,11 +194,9 @@ module _ (s : Stored) (m : Machine) (session : ℕ) (reached : IsReached s m) wh
   given_fits t found streams change effects.Undefined live fits = tt
   given_fits t found streams change (effects.Ambiguous row) live fits = tt
   given_fits t found streams change (effects.Does e) live fits = (
-    subst (λ (o : Option StoredObject). IsSomeAnd o (HoldsEffect e)) (sym found.there) (
-      found.live,
-      subst (λ (k : StoredKind). IsSomeAnd (table_in k) (λ t. EffectFits t.columns e)) (sym found.kind)
-          (subst (λ (columns : List Column). EffectFits columns e) found.columns fits),
-    ),
+    subst (λ (o : Option StoredObject). IsSomeAnd o (HoldsEffect e)) (sym found.there)
+        (subst (λ (k : StoredKind). HoldsEffect e (record found.object { kind = k })) (sym found.kind)
+        (found.live, (subst (λ (columns : List Column). EffectFits columns e) found.columns fits, refl))),
     live,
   )
 

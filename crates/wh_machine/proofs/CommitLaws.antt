@@ -54,8 +54,8 @@ spares_one stamp objects (MakesDynamic name lag is_incremental query columns) is
     stream_more objects _ id s at
 spares_one stamp objects (PutsDynamic other state) is id s at =
     stream_put (with_dynamic_state state) other objects id ∙ at
-spares_one stamp objects (RefreshesRows other moment e) is id s at =
-    stream_refreshed stamp other moment e objects id ∙ at
+spares_one stamp objects (RefreshesRows other moment e c) is id s at =
+    stream_refreshed stamp other moment e c objects id ∙ at
 
 pub spares_all : (stamp : ℕ) (objects : List Object) (acts : List Act) → AllByRecursion MovesNone acts
     → (id : ℕ) (s : Stream)
@@ -77,7 +77,7 @@ unmoved m reply acts accepted shape are on = does m reply m.sessions (Some acts)
 
 abbrev pub Defines : Act → Type 0
 Defines (EditsRows id e) = ⊥
-Defines (RefreshesRows id moment e) = ⊥
+Defines (RefreshesRows id moment e c) = ⊥
 Defines (MovesOffset id offset) = ⊥
 Defines _ = Unit {0}
 
@@ -100,7 +100,7 @@ defines_only s (EndsTask root task ending) is = record { no_edit = tt; moves_non
 defines_only s (MakesDynamic name lag is_incremental query columns) is =
     record { no_edit = tt; moves_none = tt; moves_on = tt }
 defines_only s (PutsDynamic id state) is = record { no_edit = tt; moves_none = tt; moves_on = tt }
-defines_only s (RefreshesRows id moment e) is = absurd is
+defines_only s (RefreshesRows id moment e c) is = absurd is
 
 pub all_no_edits : (s : State) (acts : List Act) → AllByRecursion Defines acts → AreNoEdits acts
 all_no_edits s acts are = all_map Defines IsNoEdit (λ act is. (defines_only s act is).no_edit) acts are

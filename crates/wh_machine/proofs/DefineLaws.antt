@@ -196,29 +196,35 @@ works_table_made : (s : Stored) (m : Machine) (n : NewTable) (replaced : Option 
     (Some (drops replaced ++ MakesTable n.name n.columns (retention_of n) ∷ [])))
 unfolding changed
 works_table_made s m n None is reached passes filled (nothing free) none =
-    works_made s m (CreatedTable n.name) (MakesTable n.name n.columns (retention_of n) ∷ []) reached (λ id. (tt, tt)) (
-      table_applies s.objects m.state n passes filled
-          (omega (arith, passes.few, live_is s m reached, one_is)) free,
-      (tt, tt),
-    )
+    works_made s m (CreatedTable n.name) (MakesTable n.name n.columns (retention_of n) ∷ []) reached (λ id. (tt, tt))
+    (record {
+      applies = (
+        table_applies s.objects m.state n passes filled
+            (omega (arith, passes.few, live_is s m reached, one_is)) free,
+        tt,
+      );
+      rises = (tt, tt);
+      follows = (refl, refl);
+    })
   where
     one_is : one_if n.replaced ≡ 0
     one_is = ap one_if is
 works_table_made s m n (Some id) is reached passes filled (one o there live no_task free) none =
     works_defined s m (CreatedTable n.name)
     (DropsObject id ∷ MakesTable n.name n.columns (retention_of n) ∷ []) id reached
-    none (refl, (tt, tt)) (
-      may_go s.objects id o there live no_task,
-      (
-        tt,
+    none (refl, (tt, tt)) (record {
+      applies = (
+        may_go s.objects id o there live no_task,
         (
           table_applies (changed_at s.objects id dropped) m.state n passes filled
               (omega (arith, passes.few, live_is s m reached, one_is, live_dropped s.objects id o there live))
               (free reached.firm.names),
-          (tt, tt),
+          tt,
         ),
-      ),
-    )
+      );
+      rises = (tt, (tt, tt));
+      follows = (refl, (refl, refl));
+    })
   where
     one_is : one_if n.replaced ≡ 1
     one_is = ap one_if is
@@ -368,19 +374,24 @@ works_stream s m session name table is_append_only reached some =
     let tests = passes_stream m.state (option_map refusal_of (first_failing b)) b.value passes in
     let found = nothing_wrong b tests.0 in
     let on = placed s m TableObject table reached found.1 in
-    works_made s m (CreatedStream name) (MakesStream name b.value.table is_append_only ∷ []) reached (λ id. (tt, tt)) (
-      record {
-        object = record {
-          next_id = refl;
-          few = omega (arith, tests.1.0, live_is s m reached);
-          free = free_of_all name s.objects (free_taken s m name reached found.0);
-          name = (some, tests.1.1);
-        };
-        source = live_table s.objects b.value.table on;
-        mode = may_show is_append_only s.objects b.value.table on;
-      },
-      (tt, tt),
-    )))
+    works_made s m (CreatedStream name) (MakesStream name b.value.table is_append_only ∷ []) reached (λ id. (tt, tt))
+    (record {
+      applies = (
+        record {
+          object = record {
+            next_id = refl;
+            few = omega (arith, tests.1.0, live_is s m reached);
+            free = free_of_all name s.objects (free_taken s m name reached found.0);
+            name = (some, tests.1.1);
+          };
+          source = live_table s.objects b.value.table on;
+          mode = may_show is_append_only s.objects b.value.table on;
+        },
+        tt,
+      );
+      rises = (tt, tt);
+      follows = (refl, refl);
+    })))
 
 -- ---- an object that is dropped
 
@@ -388,8 +399,12 @@ works_goes : (s : Stored) (m : Machine) (reply : Reply) (kind : ObjectKind) (id 
     → is_same_kind kind TaskObject ≡ false → holder m.sessions id ≡ None → IsPlaced s.objects kind id
     → Works s m (Does reply m.sessions (Some (DropsObject id ∷ [])))
 works_goes s m reply kind id reached other none is =
-    works_defined s m reply (DropsObject id ∷ []) id reached none (refl, tt)
-    (may_go s.objects id is.object is.there is.live (not_task kind is.object.kind other is.kind_is), (tt, tt))
+    works_defined s m reply (DropsObject id ∷ []) id reached none (refl, tt) (record {
+      applies =
+          (may_go s.objects id is.object is.there is.live (not_task kind is.object.kind other is.kind_is), tt);
+      rises = (tt, tt);
+      follows = (refl, refl);
+    })
 
 -- by a name in the place of a kind
 pub works_drop : (s : Stored) (m : Machine) (session : ℕ) (kind : ObjectKind) (name : List ℕ) (reply : Reply)

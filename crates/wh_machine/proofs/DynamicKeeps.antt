@@ -20,6 +20,7 @@ use Rattle.wh_state.proofs.PlaceLaws.{at_front, at_either}
 use Rattle.wh_state.specs.State.{State, Object, DynamicKind, new_object, empty_table, at_id, table_in}
 use Rattle.wh_state.specs.Dynamic.{DynamicState, Dynamic, new_dynamic}
 use Rattle.wh_state.specs.Objects.{as_table, dynamic_at, table_at, name_at}
+use Rattle.wh_state.specs.Bound.{kept_for}
 use Rattle.wh_state.specs.Act.{PutsDynamic}
 use Rattle.wh_state.proofs.SoundObjects.{IsKept, IsDynamicAt, found_dynamic, sound_at}
 use Rattle.wh_state.proofs.SoundTables.{IsFresh}
@@ -82,8 +83,9 @@ module _ (m : Machine) (t : CreateDynamicTable) where
 
   abbrev its_object : Object
   its_object = new_object t.name (DynamicKind (new_dynamic (seconds_of t.lag)
-      (is_incremental t.mode (incrementable made_of.query)) (query_of made_of))
-      (empty_table made_of.columns m.state.last))
+      (is_incremental t.mode (incrementable made_of.query))
+      (kept_for m.state.objects (is_incremental t.mode (incrementable made_of.query)) (query_of made_of))
+      (query_of made_of)) (empty_table made_of.columns m.state.last))
 
   -- it has no version
   fresh_with : IsReady m → IsFreshFrom m.state.last 0 with_it.objects

@@ -55,6 +55,7 @@ use Rattle.wh_machine.proofs.WorksLaws.{IsReached, objects_meant, Works, works_r
 use Rattle.wh_machine.proofs.PassedLaws.{passed, none_if, within, neither, short_name, nothing_wrong, free_taken}
 use Rattle.wh_machine.proofs.DefineLaws.{live_is, works_defines, columns_named}
 use Rattle.wh_machine.proofs.RefreshLaws.{AreOfRefresh, refresh_acts}
+use Rattle.wh_machine.proofs.GroupsBrought.{first_groups}
 use Rattle.wh_machine.proofs.RefreshGoes.{AreStanding, KindStands, refresh_goes}
 use Rattle.wh_machine.proofs.DynamicWorks.{lag_is, refresh_spares, standing_of}
 use Rattle.wh_machine.proofs.DynamicNames.{all_inside, IsSeenBy, seen_by, right_kept, new_binds}
@@ -195,7 +196,8 @@ module _ (s : Stored) (m : Machine) (reached : IsReached s m) (n : NewDynamicTab
 
   made_standing : AreStanding new
   unfolding changed
-  made_standing = all_more (λ o. KindStands o.kind) s.objects _ (standing_of s m reached) (tt, tt)
+  made_standing = all_more (λ o. KindStands o.kind) s.objects _ (standing_of s m reached)
+      (tt, (tt, first_groups s.objects (is_incremental n.mode (incrementable n.query)) query))
 
   made_lives : is_live_at (map object_meant new) (new_id m.state) ≡ true
   unfolding changed
@@ -253,8 +255,12 @@ works_create_dynamic s m session t reached filled =
     let found = nothing_wrong b tests.0 in
     let binds = binds_over s.objects reached.firm.columns t filled m.state.objects (objects_meant s m reached) found.1
     tests.1.narrow in
-    works_initialized s m reached n (query_of n) (
-      dynamic_applies s.objects m.state n (query_of n) tests.1 filled.name binds.1
-          (omega (arith, tests.1.few, live_is s m reached)) (free_taken s m t.name reached found.0) binds.0,
-      (record { tokens = filled.tokens; behind = filled.behind; is = filled.query }, tt),
-    ) n.initialize))
+    works_initialized s m reached n (query_of n) (record {
+      applies = (
+        dynamic_applies s.objects m.state n (query_of n) tests.1 filled.name binds.1
+            (omega (arith, tests.1.few, live_is s m reached)) (free_taken s m t.name reached found.0) binds.0,
+        tt,
+      );
+      rises = (record { tokens = filled.tokens; behind = filled.behind; is = filled.query }, tt);
+      follows = (refl, refl);
+    }) n.initialize))

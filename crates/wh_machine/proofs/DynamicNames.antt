@@ -27,7 +27,7 @@ use Rattle.wh_state.proofs.AllLaws.{all_map}
 use Rattle.wh_machine.specs.Names.{object_kind, names_from}
 use Rattle.wh_machine.specs.Dynamics.{sources_named}
 use Rattle.wh_machine.proofs.MadeQuery.{named_inside, query_same}
-use Rattle.wh_machine.proofs.EvaluatedLaws.{names_meant}
+use Rattle.wh_state.proofs.MeaningLaws.{names_meant}
 use Rattle.wh_machine.proofs.NamedLaws.{IsObjectOf, object_named}
 use Rattle.wh_machine.proofs.PassedLaws.{both_none, no_map}
 

@@ -19,23 +19,23 @@ use Rattle.wh_ddl_naming.specs.Objects.{is_same_kind, object_of}
 use Rattle.wh_reply.specs.Reply.{Refusal, Reply, OverLimit, Refreshed, Suspended, Resumed, Altered, RefreshedTables}
 use Rattle.wh_reply.specs.Reply.{RefreshFailed, Idle}
 use Rattle.wh_state.specs.State.{TableKind, StreamKind, TaskKind, DynamicKind, Object, at_id, last_of}
-use Rattle.wh_state.specs.Dynamic.{DynamicState, Dynamic, most_failed_refreshes}
+use Rattle.wh_state.specs.Dynamic.{DynamicState, Dynamic, GroupsChange, most_failed_refreshes}
 use Rattle.wh_state.specs.Objects.{as_dynamic, dynamic_at, is_live_at, name_at}
 use Rattle.wh_state.specs.Act.{Act, MakesTable, DropsObject, EditsRows, MakesStream, MovesOffset, MakesTask, PutsTask}
 use Rattle.wh_state.specs.Act.{BeginsRun, EndsTask, MakesDynamic, PutsDynamic, RefreshesRows}
 use Rattle.wh_state.specs.Edits.{Edits}
 use Rattle.wh_state.specs.Stored.{StoredTable, StoredVersion, StoredKind, StoredObject, Stored, kind_meant}
 use Rattle.wh_state.specs.Stored.{object_meant}
-use Rattle.wh_state.specs.Stored.{version_meant}
+use Rattle.wh_state.specs.Stored.{version_meant, table_meant}
 use Rattle.wh_state.specs.Commit.{IsLag, TakesState, DoesNotFall, all_changed}
-use Rattle.wh_state.specs.Written.{version_written_to, act_written, written}
+use Rattle.wh_state.specs.Written.{version_written_to, groups_written, act_written, written}
 use Rattle.wh_state.specs.Sound.{IsTimelyFor, IsSoundObject, IsSoundKind}
 use Rattle.wh_state.proofs.AllLaws.{all_append, all_at}
-use Rattle.wh_state.proofs.FoundLaws.{FoundAt, found_some}
+use Rattle.wh_state.proofs.FoundLaws.{found_some}
 use Rattle.wh_state.proofs.MeaningLaws.{at_id_meant}
 use Rattle.wh_state.proofs.BelowLaws.{rows_below}
 use Rattle.wh_state.proofs.DynamicFirm.{DynamicHolds, IsFirmDynamic}
-use Rattle.wh_state.proofs.WrittenLaws.{ChangeSpares}
+use Rattle.wh_state.proofs.WrittenLaws.{AllGo, ChangeSpares, go_none}
 use Rattle.wh_state.proofs.BroughtGoes.{StateStands}
 use Rattle.wh_moment.specs.Upstream.{Watched, Dynamics, dynamics_of, watched_at, watched_object, upstream}
 use Rattle.wh_moment.specs.Moment.{is_waiting_for, is_due, target, sooner, due_among, ids_from, due_table}
@@ -57,6 +57,7 @@ use Rattle.wh_machine.proofs.ValueTypes.{both_true}
 use Rattle.wh_machine.proofs.PassedLaws.{passed, none_if, within, nothing_wrong}
 use Rattle.wh_machine.proofs.DefineLaws.{IsPlaced, placed, works_defines}
 use Rattle.wh_machine.proofs.RefreshLaws.{IsOfRefresh, AreOfRefresh, refresh_acts}
+use Rattle.wh_machine.proofs.GroupsBrought.{sound_groups}
 use Rattle.wh_machine.proofs.RefreshGoes.{KindStands, AreStanding, watched_found, refresh_goes}
 
 -- ---- what stands
@@ -77,8 +78,13 @@ standing_of s m reached =
     by_kind (TableKind t) sound = tt
     by_kind (StreamKind stream) sound = tt
     by_kind (TaskKind t) sound = tt
-    by_kind (DynamicKind d t) sound =
-        (rows_below t sound.below, last_falls m.state.committed d.state.moment t.versions sound.timely)
+    by_kind (DynamicKind d t) sound = (
+      rows_below t sound.below,
+      (
+        last_falls m.state.committed d.state.moment t.versions sound.timely,
+        sound_groups m.state.committed m.state.objects d (table_meant t) sound,
+      ),
+    )
 
     all_standing : (os : List StoredObject)
         → AllByRecursion (IsSoundObject m.state.committed m.state.objects) (map object_meant os) → AreStanding os
@@ -124,8 +130,14 @@ refresh_spares id stamp objects (act ∷ acts) are =
     by_found moment other e None = tt
     by_found moment other e (Some o) = by_kind moment other e o o.kind
 
+    groups_spare : (other : ℕ) (c : Option GroupsChange) → AllByRecursion (ChangeSpares id) (groups_written other c)
+    groups_spare other None = tt
+    groups_spare other (Some c) = (tt, tt)
+
     act_spares : (act : Act) → IsOfRefresh act → AllByRecursion (ChangeSpares id) (act_written stamp objects act)
-    act_spares (RefreshesRows other moment e) is = by_found moment other e (at_id objects other)
+    act_spares (RefreshesRows other moment e c) is =
+        all_append (ChangeSpares id) (version_written_to moment other e (at_id objects other)) (groups_written other c)
+        (by_found moment other e (at_id objects other)) (groups_spare other c)
     act_spares (PutsDynamic other state) is = (tt, tt)
     act_spares (MakesTable name columns retention) is = absurd is
     act_spares (DropsObject other) is = absurd is
@@ -232,11 +244,12 @@ module _ (s : Stored) (m : Machine) (reached : IsReached s m) where
   Takes new = (d : Dynamic) → IsLag d.state.lag → d.state.failures ≤ most_failed_refreshes → TakesState d (new d.state)
 
   state_goes : (id : ℕ) (new : DynamicState → DynamicState) → Takes new → (is : IsDynamicAt s.objects id)
-      → FoundAt (StateStands (new is.dynamic.state)) s.objects id
+      → AllGo m.state.last s.objects (written m.state.last s.objects (PutsDynamic id (new is.dynamic.state) ∷ []))
   state_goes id new takes is =
       let firm : IsFirmDynamic s.objects is.dynamic is.table.columns = firm_now id is in
-      found_some (StateStands (new is.dynamic.state)) s.objects id _ is.there
-      (is.live, takes is.dynamic firm.lag firm.few)
+      let stands = found_some (StateStands (new is.dynamic.state)) s.objects id _ is.there
+      (is.live, takes is.dynamic firm.lag firm.few) in
+      record { applies = (stands, tt); rises = (tt, tt); follows = (refl, refl) }
 
   works_alters : (reply : Reply) (id : ℕ) (new : DynamicState → DynamicState) → Takes new → IsDynamicAt s.objects id
       → Works s m (alters m reply id new)
@@ -246,9 +259,9 @@ module _ (s : Stored) (m : Machine) (reached : IsReached s m) where
     where
       by_same : (same : Bool)
           → Works s m (commits m reply (cond same [] (PutsDynamic id (new is.dynamic.state) ∷ [])))
-      by_same true = works_made s m reply [] reached (λ other. tt) tt
+      by_same true = works_made s m reply [] reached (λ other. tt) (go_none m.state.last s.objects)
       by_same false = works_made s m reply (PutsDynamic id (new is.dynamic.state) ∷ []) reached (λ other. (tt, tt))
-          (state_goes id new takes is, (tt, tt))
+          (state_goes id new takes is)
 
   abbrev named_table : List ℕ → Meant ℕ
   named_table name = object_of DynamicTableObject (names_in m.state.objects) name
@@ -334,11 +347,9 @@ module _ (s : Stored) (m : Machine) (reached : IsReached s m) where
       fails : (why : Refusal) → Works s m (failed_of m id moment why (Some is.dynamic))
       fails why = works_made s m
           (RefreshFailed (name_at m.state.objects id) moment why (is_fifth is.dynamic.state))
-          (PutsDynamic id (behind_failure moment is.dynamic.state) ∷ []) reached (λ other. (tt, tt)) (
-            state_goes id (behind_failure moment)
-                (λ d lag old. record { lag = lag; failures = few (d.state.failures + 1); moment = omega arith }) is,
-            (tt, tt),
-          )
+          (PutsDynamic id (behind_failure moment is.dynamic.state) ∷ []) reached (λ other. (tt, tt))
+          (state_goes id (behind_failure moment)
+          (λ d lag old. record { lag = lag; failures = few (d.state.failures + 1); moment = omega arith }) is)
 
       by_refresh : (r : Refreshing) → refresh m.state None id moment ≡ r → Works s m (scheduled_by m id moment r)
       by_refresh (Fails why) r_is =

@@ -1,8 +1,7 @@
 -- The rows of a dynamic table's query fit its columns, for each moment.
---     names_meant        its query sees the same of what a file says and of what that means
 --     ids_sourced        the sources of its query are what it is numbered to read
 --     evaluated_fits     its rows
-use Rattle.std.proofs.Common.{◌≡◌, ℕ, zero, suc, ◌+◌, Bool, true, false, cond, List, [], ◌∷◌, ◌++◌, map, Option, Some}
+use Rattle.std.proofs.Common.{◌≡◌, ℕ, zero, suc, Bool, true, false, cond, List, [], ◌∷◌, ◌++◌, map, Option, Some}
 use Rattle.std.proofs.Common.{None}
 use Rattle.std.proofs.Common.{option_map, refl, sym, ap, subst, ◌∙◌, arith}
 use Rattle.std.specs.Prelude.{slice_get, bytes_eq, unwrap_or}
@@ -22,13 +21,13 @@ use Rattle.wh_state.specs.State.{TableKind, StreamKind, TaskKind, DynamicKind, O
 use Rattle.wh_state.specs.State.{at_id, columns_in, columns_at, rows_at}
 use Rattle.wh_state.specs.Dynamic.{Source, DynamicQuery, Dynamic, id_named, ids_read}
 use Rattle.wh_state.specs.Objects.{as_table}
-use Rattle.wh_state.specs.Bound.{source_kind, named_as, names_among, query_bound}
+use Rattle.wh_state.specs.Bound.{named_as, names_among, query_bound}
 use Rattle.wh_state.specs.Moments.{bag_at, instance_at, evaluated_at}
 use Rattle.wh_state.specs.Stored.{StoredTable, StoredKind, StoredObject, version_meant, table_meant, kind_meant}
 use Rattle.wh_state.specs.Stored.{object_meant}
 use Rattle.wh_state.proofs.AllLaws.{all_map, all_filter, all_at}
 use Rattle.wh_state.proofs.FoundLaws.{FoundAt}
-use Rattle.wh_state.proofs.MeaningLaws.{at_id_meant}
+use Rattle.wh_state.proofs.MeaningLaws.{at_id_meant, names_meant}
 use Rattle.wh_state.proofs.AppliesLaws.{IsFirmTable}
 use Rattle.wh_state.proofs.FirmLaws.{IsFirmKind, IsFirmObject}
 use Rattle.wh_state.proofs.DynamicFirm.{IsThere, IsFirmDynamic}
@@ -39,36 +38,6 @@ use Rattle.wh_machine.proofs.PassedLaws.{nothing_fails}
 use Rattle.wh_machine.proofs.ShownLaws.{output_types}
 use Rattle.wh_machine.proofs.BoundLaws.{column_rows, InstanceFits, IsGoodQuery, query_good}
 use Rattle.wh_machine.proofs.SeenRows.{Fit, RowsFitIn, versions_fit, last_fits}
-
--- ---- what a query sees
-
-kind_seen : (k : StoredKind) → source_kind (kind_meant k) ≡ source_kind k
-kind_seen (TableKind t) = refl
-kind_seen (StreamKind s) = refl
-kind_seen (TaskKind t) = refl
-kind_seen (DynamicKind d t) = refl
-
-columns_seen : (k : StoredKind) → columns_in (kind_meant k) ≡ columns_in k
-columns_seen (TableKind t) = refl
-columns_seen (StreamKind s) = refl
-columns_seen (TaskKind t) = refl
-columns_seen (DynamicKind d t) = refl
-
-pub names_meant : (objects : List StoredObject) (sources : List Source)
-    → names_among (map object_meant objects) sources ≡ names_among objects sources
-names_meant objects [] = refl
-names_meant objects (s ∷ ss) =
-    ap (λ (found : Option Object). option_map_or (λ o. named_as s o ∷ []) found []
-    ++ names_among (map object_meant objects) ss) (at_id_meant objects s.id)
-    ∙ by_found (at_id objects s.id) (names_meant objects ss)
-  where
-    by_found : (found : Option StoredObject)
-        → names_among (map object_meant objects) ss ≡ names_among objects ss
-        → option_map_or (λ o. named_as s o ∷ []) (option_map object_meant found) []
-        ++ names_among (map object_meant objects) ss
-        ≡ option_map_or (λ o. named_as s o ∷ []) found [] ++ names_among objects ss
-    by_found None rest = rest
-    by_found (Some o) rest = rw (kind_seen o.kind, columns_seen o.kind, rest) refl
 
 -- ---- the objects that it is numbered to read
 

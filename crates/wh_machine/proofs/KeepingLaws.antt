@@ -13,7 +13,7 @@ use Rattle.wh_state.specs.Dynamic.{Dynamic, with_dynamic_state}
 use Rattle.wh_state.specs.Objects.{is_table}
 use Rattle.wh_state.specs.Act.{Act, MakesTable, DropsObject, EditsRows, MakesStream, MovesOffset, MakesTask, PutsTask}
 use Rattle.wh_state.specs.Act.{BeginsRun, EndsTask, MakesDynamic, PutsDynamic, RefreshesRows, edited_object}
-use Rattle.wh_state.specs.Act.{moved_object}
+use Rattle.wh_state.specs.Act.{edited_kind, refreshed_object, moved_object}
 use Rattle.wh_state.specs.Act.{on_task_object, on_dynamic_object, acted, all_acted}
 use Rattle.wh_state.specs.Sound.{Sound}
 use Rattle.wh_state.proofs.AllLaws.{all_map}
@@ -123,8 +123,9 @@ table_stays stamp objects (EndsTask root task ending) id is =
 table_stays stamp objects (PutsDynamic other state) id is =
     found_changed IsTableObject (on_dynamic_object (with_dynamic_state state)) (λ o h. table_put _ o.kind h)
     objects other id is
-table_stays stamp objects (RefreshesRows other moment e) id is =
-    found_changed IsTableObject (edited_object stamp moment e) (λ o h. table_edited _ o.kind h) objects other id is
+table_stays stamp objects (RefreshesRows other moment e c) id is =
+    found_changed IsTableObject (refreshed_object stamp moment e c)
+    (λ o h. table_put _ (edited_kind stamp moment e o.kind) (table_edited _ o.kind h)) objects other id is
 
 pub all_stay : (stamp : ℕ) (objects : List Object) (acts : List Act) (id : ℕ) → IsTableAt objects id
     → IsTableAt (all_acted stamp objects acts) id

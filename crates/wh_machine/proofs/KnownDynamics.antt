@@ -31,6 +31,7 @@ use Rattle.wh_naming.specs.Select.{QueryReading, source_step, core_step, query_s
 use Rattle.wh_naming.proofs.Written.{WrittenQuery, layers, name_b, name_t, only, column, object, select}
 use Rattle.wh_ddl_naming.specs.Names.{query_names}
 use Rattle.wh_algebra.specs.Increments.{incrementable}
+use Rattle.wh_maintenance.specs.Above.{grouping}
 use Rattle.wh_ddl_naming.specs.DynamicTables.{NewDynamicTable}
 use Rattle.wh_reply.specs.Reply.{Refusal, NotIncrementable, LagTooShort, NotInitialized, SourceGone, IsSuspended}
 use Rattle.wh_reply.specs.Reply.{OverLimit}
@@ -112,7 +113,7 @@ GivesRows q = (kept : List Version) (live : Bool) (others : List Object)
 module _ (q : DynamicQuery) (reads : ids_read q ≡ 1 ∷ []) (gives : GivesRows q) where
   abbrev d : DynamicState → List Version → Object
   d state kept =
-      new_object (codes "D") (DynamicKind (record { query = q; is_incremental = true; state = state })
+      new_object (codes "D") (DynamicKind (record { query = q; is_incremental = true; state = state; kept = None })
       (table_of 2 2 kept))
 
   -- at its last numbers
@@ -121,6 +122,7 @@ module _ (q : DynamicQuery) (reads : ids_read q ≡ 1 ∷ []) (gives : GivesRows
     query = q;
     is_incremental = true;
     state = state_of 60 0 false;
+    kept = None;
   }) (record (table_of 2 2 []) { next_row = row; next_partition = partition }))
 
   abbrev last_row : Object
@@ -137,7 +139,7 @@ module _ (q : DynamicQuery) (reads : ids_read q ≡ 1 ∷ []) (gives : GivesRows
   -- a table without a version is evaluated, whatever its mode
   first_refresh : refresh (state_with 20 (one ∷ two ∷ []) (state_of 60 0 false) []) None 2 20
       ≡ Brings (brings 20 Full 2 0)
-      (RefreshesRows 2 20 (adds (low ∷ high ∷ [])) ∷ PutsDynamic 2 (state_of 60 20 false) ∷ [])
+      (RefreshesRows 2 20 (adds (low ∷ high ∷ [])) None ∷ PutsDynamic 2 (state_of 60 20 false) ∷ [])
   unfolding refresh upstream brought brought_one evaluated_at eval val values_on rebase listed order_by fold_bag
       edits_from partitions_made edited_table
   first_refresh = simp (reads, gives, map_steps)
@@ -145,7 +147,7 @@ module _ (q : DynamicQuery) (reads : ids_read q ≡ 1 ∷ []) (gives : GivesRows
   -- by what stood at the moment
   earlier : refresh (state_with 20 (one ∷ two ∷ []) (state_of 60 0 false) []) None 2 14
       ≡ Brings (brings 14 Full 1 0)
-      (RefreshesRows 2 14 (adds (low ∷ [])) ∷ PutsDynamic 2 (state_of 60 14 false) ∷ [])
+      (RefreshesRows 2 14 (adds (low ∷ [])) None ∷ PutsDynamic 2 (state_of 60 14 false) ∷ [])
   unfolding refresh upstream brought brought_one evaluated_at eval val values_on rebase listed order_by fold_bag
       edits_from partitions_made edited_table
   earlier = simp (reads, gives, map_steps)
@@ -154,7 +156,7 @@ module _ (q : DynamicQuery) (reads : ids_read q ≡ 1 ∷ []) (gives : GivesRows
   one_more : refresh (state_with 20 (one ∷ twice ∷ []) (state_of 60 5 false) (version_for 6 5 one.content ∷ [])) None
       2 20
       ≡ Brings (brings 20 Incremental 1 0)
-      (RefreshesRows 2 20 (adds (low ∷ [])) ∷ PutsDynamic 2 (state_of 60 20 false) ∷ [])
+      (RefreshesRows 2 20 (adds (low ∷ [])) None ∷ PutsDynamic 2 (state_of 60 20 false) ∷ [])
   unfolding refresh upstream brought brought_one evaluated_at eval val values_on rebase listed order_by fold_bag
       edits_from partitions_made edited_table
   one_more = simp (reads, gives, map_steps)
@@ -162,7 +164,7 @@ module _ (q : DynamicQuery) (reads : ids_read q ≡ 1 ∷ []) (gives : GivesRows
   one_less : refresh (state_with 20 (one ∷ emptied ∷ []) (state_of 60 5 false) (version_for 6 5 one.content ∷ [])) None
       2 20
       ≡ Brings (brings 20 Incremental 0 1)
-      (RefreshesRows 2 20 (record { rows = insert empty 1 None; added = [] })
+      (RefreshesRows 2 20 (record { rows = insert empty 1 None; added = [] }) None
       ∷ PutsDynamic 2 (state_of 60 20 false) ∷ [])
   unfolding refresh upstream brought brought_one evaluated_at eval val values_on rebase listed order_by fold_bag
       edits_from partitions_made edited_table
@@ -244,10 +246,10 @@ module _ (q : DynamicQuery) (reads : ids_read q ≡ 1 ∷ []) (gives : GivesRows
   created_with_rows : initialized (machine (table_t (one ∷ []) ∷ [])) (written (lags.Seconds 60) modes.Auto (Scan 0)) q
       starts.OnCreate
       ≡ Does (CreatedDynamicTable (codes "D") (brings 20 Full 1 0)) no_sessions
-      (Some (MakesDynamic (codes "D") 60 true q columns ∷ RefreshesRows 2 20 (adds (low ∷ []))
+      (Some (MakesDynamic (codes "D") 60 true q columns ∷ RefreshesRows 2 20 (adds (low ∷ [])) None
       ∷ PutsDynamic 2 (state_of 60 20 false) ∷ []))
   unfolding refresh upstream brought brought_one evaluated_at eval val values_on rebase listed order_by fold_bag
-      edits_from partitions_made edited_table incrementable
+      edits_from partitions_made edited_table incrementable grouping
   created_with_rows = simp (reads, gives, map_steps)
 
   -- what is so already is no change
@@ -269,7 +271,7 @@ module _ (q : DynamicQuery) (reads : ids_read q ≡ 1 ∷ []) (gives : GivesRows
   -- a moment of 48 seconds on; a refresh that fails counts, and the fifth in a row suspends the table
   scheduled_refresh : (refreshes (opened (over 48001 (table_t (one ∷ []) ∷ d (state_of 60 0 false) [] ∷ [])))
       (Some (2, 48000))
-      ≡ Does (RefreshedTables (brings 48000 Full 1 0)) no_sessions (Some (RefreshesRows 2 48000 (adds (low ∷ []))
+      ≡ Does (RefreshedTables (brings 48000 Full 1 0)) no_sessions (Some (RefreshesRows 2 48000 (adds (low ∷ [])) None
       ∷ PutsDynamic 2 (state_of 60 48000 false) ∷ [])))
       × (refreshes (opened (over 48001 (dropped (table_t (one ∷ [])) ∷ d (state_of 60 0 false) [] ∷ [])))
       (Some (2, 48000))
@@ -291,10 +293,12 @@ chain p q lag above = over 20 (table_t [] ∷ new_object (codes "D") (DynamicKin
   query = p;
   is_incremental = true;
   state = state_of lag 0 false;
+  kept = None;
 }) (table_of 2 2 [])) ∷ new_object (codes "E") (DynamicKind (record {
   query = q;
   is_incremental = true;
   state = state_of above 0 false;
+  kept = None;
 }) (table_of 3 3 [])) ∷ [])
 
 -- D reads T, and E reads D: no lag of E is below that of D, whichever is altered

@@ -7,7 +7,7 @@ use Rattle.std.specs.Prelude.{nat_le, slice_get, slice_set}
 use Rattle.std.specs.List.{filter}
 use Rattle.std.proofs.lemmas.Bool.{lt-leb}
 use Rattle.wh_state.specs.State.{TaskKind, DynamicKind, on_task, on_dynamic}
-use Rattle.wh_state.specs.Dynamic.{Dynamic, with_dynamic_state}
+use Rattle.wh_state.specs.Dynamic.{Dynamic, with_dynamic_state, with_groups}
 use Rattle.std.specs.Option.{option_and_then}
 use Rattle.wh_state.specs.State.{Version, Table, Stream, Kind, TableKind, StreamKind, Object, State, nothing_held}
 use Rattle.wh_state.specs.State.{dropped, content_in, last_of, at_id, put_at, changed_at}
@@ -15,7 +15,7 @@ use Rattle.wh_state.specs.Edits.{Edits}
 use Rattle.wh_state.specs.Act.{MakesTask, PutsTask, BeginsRun, EndsTask, MakesDynamic, PutsDynamic, RefreshesRows}
 use Rattle.wh_state.specs.Act.{on_task_object, on_dynamic_object}
 use Rattle.wh_state.specs.Act.{Act, MakesTable, DropsObject, EditsRows, MakesStream, MovesOffset, edited_table}
-use Rattle.wh_state.specs.Act.{edited_kind, edited_object, moved_kind, moved_object, acted, all_acted}
+use Rattle.wh_state.specs.Act.{edited_kind, edited_object, refreshed_object, moved_kind, moved_object, acted, all_acted}
 use Rattle.wh_state.specs.Objects.{stream_at}
 use Rattle.wh_net.specs.Stream.{rows_at}
 use Rattle.wh_machine.specs.Consuming.{base_in, Extends, IsLaterKind, IsLater, AreLater}
@@ -202,11 +202,12 @@ acts_later s objects (PutsDynamic id state ∷ acts) on later =
     acts_later s (acted s.last objects (PutsDynamic id state)) acts on.1
     (changed_extends (IsLater s.last) (on_dynamic_object (with_dynamic_state state)) s.objects objects id
     (λ old new at is. put_is_later s.last (with_dynamic_state state) old.kind new.kind is) later)
-acts_later s objects (RefreshesRows id moment e ∷ acts) on later =
-    acts_later s (acted s.last objects (RefreshesRows id moment e)) acts on.1
-    (changed_extends (IsLater s.last) (edited_object s.last moment e) s.objects objects id
-    (λ old new at is. refreshed_is_later s.last moment e old.kind new.kind
-    (sym (ap (option_and_then (λ o. base_in o.kind)) at) ∙ on.0) is) later)
+acts_later s objects (RefreshesRows id moment e c ∷ acts) on later =
+    acts_later s (acted s.last objects (RefreshesRows id moment e c)) acts on.1
+    (changed_extends (IsLater s.last) (refreshed_object s.last moment e c) s.objects objects id
+    (λ old new at is. put_is_later s.last (with_groups c) old.kind (edited_kind s.last moment e new.kind)
+    (refreshed_is_later s.last moment e old.kind new.kind
+    (sym (ap (option_and_then (λ o. base_in o.kind)) at) ∙ on.0) is)) later)
 acts_later s objects (MovesOffset id offset ∷ acts) on later =
     acts_later s (acted s.last objects (MovesOffset id offset)) acts on.1
     (changed_extends (IsLater s.last) (moved_object offset) s.objects objects id

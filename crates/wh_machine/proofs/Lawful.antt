@@ -32,7 +32,7 @@ pub record KeepsSessions (m : Machine) (sessions : Sessions) : Type 0 where
 abbrev pub MovesOn : State → Act → Type 0
 MovesOn s (MovesOffset id offset) =
     (offset ≤ s.last - 1) × ((old : Stream) → stream_at s.objects id ≡ Some old → old.offset ≤ offset)
-MovesOn s (RefreshesRows id moment e) = base_at s.objects id ≡ None
+MovesOn s (RefreshesRows id moment e c) = base_at s.objects id ≡ None
 MovesOn s _ = Unit {0}
 
 abbrev pub AllMoveOn : State → List Act → Type 0

@@ -24,7 +24,7 @@ use Rattle.wh_state.specs.Sound.{Sound}
 use Rattle.wh_state.specs.Orderly.{IsOrderlyObject, IsOrderlyStored}
 use Rattle.wh_state.proofs.AllLaws.{all_map}
 use Rattle.wh_state.proofs.FirmLaws.{IsFirmObject, IsFirm, firm_file}
-use Rattle.wh_state.proofs.WrittenLaws.{go_apply, go_firm}
+use Rattle.wh_state.proofs.WrittenLaws.{go_firm}
 use Rattle.wh_machine.specs.Outcome.{Machine, opened, settled, acts_in}
 use Rattle.wh_machine.specs.Step.{Event, reading_of, stamp_of, has_stamp, decided, step}
 use Rattle.wh_machine.specs.Made.{made, all_made, kept_after_all}
@@ -74,7 +74,8 @@ goes_apply s stamp later within None goes = tt
 goes_apply s stamp later within (Some acts) goes = record {
   later = later;
   within = within;
-  changes = go_apply stamp s.objects (written stamp s.objects acts) goes;
+  changes = goes.applies;
+  groups = goes.follows;
 }
 
 goes_firm : (s : Stored) (stamp : ℕ) (acts : Option (List Act)) → CommitGoes s stamp acts → IsFirm s.objects

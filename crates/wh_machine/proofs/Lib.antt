@@ -12,6 +12,7 @@ pub mod KeepingLaws
 pub mod TableNamed
 pub mod PlainLaws
 pub mod AfterLaws
+pub mod GroupsBrought
 pub mod BroughtOne
 pub mod BroughtLaws
 pub mod MadeQuery

@@ -13,7 +13,8 @@ use Rattle.wh_state.specs.State.{Stream, Object, Table, with_offset, dropped, at
 use Rattle.wh_state.specs.State.{put_at, changed_at}
 use Rattle.wh_state.specs.Edits.{Edits}
 use Rattle.wh_state.specs.Act.{on_task_object, on_dynamic_object, RefreshesRows}
-use Rattle.wh_state.specs.Act.{DropsObject, EditsRows, MovesOffset, edited_table, edited_object}
+use Rattle.wh_state.specs.Act.{DropsObject, EditsRows, MovesOffset, edited_table, edited_kind, edited_object}
+use Rattle.wh_state.specs.Act.{refreshed_object}
 use Rattle.wh_state.specs.Act.{moved_object, acted, all_acted}
 use Rattle.wh_state.specs.Objects.{as_stream, stream_at}
 use Rattle.wh_state.proofs.KindLaws.{stream_of_task, stream_of_dynamic}
@@ -22,7 +23,7 @@ use Rattle.wh_machine.specs.Offsets.{with_stream, with_streams, offset_move, off
 use Rattle.wh_net.specs.Stream.{shown, records_between}
 use Rattle.wh_machine.specs.Transaction.{Staged, edit_act}
 use Rattle.wh_state.specs.Task.{Task}
-use Rattle.wh_state.specs.Dynamic.{Dynamic}
+use Rattle.wh_state.specs.Dynamic.{Dynamic, GroupsChange, with_groups}
 
 -- ---- what stands at an id
 
@@ -123,19 +124,16 @@ stream_stays f so objects id q =
     either_same true found = option_map_id found
     either_same false found = refl
 
--- for a moment
-stream_versioned : (stamp moment id : ℕ) (e : Edits) (objects : List Object) (q : ℕ)
-    → stream_at (changed_at objects id (edited_object stamp moment e)) q ≡ stream_at objects q
-stream_versioned stamp moment id e objects q = stream_stays (edited_object stamp moment e)
-    (λ o. stream_of_table (edited_table stamp moment e) o.kind) objects id q
-
 pub stream_edited : (stamp id : ℕ) (e : Edits) (objects : List Object) (q : ℕ)
     → stream_at (acted stamp objects (EditsRows id e)) q ≡ stream_at objects q
-stream_edited stamp id e objects q = stream_versioned stamp stamp id e objects q
+stream_edited stamp id e objects q = stream_stays (edited_object stamp stamp e)
+    (λ o. stream_of_table (edited_table stamp stamp e) o.kind) objects id q
 
-pub stream_refreshed : (stamp id moment : ℕ) (e : Edits) (objects : List Object) (q : ℕ)
-    → stream_at (acted stamp objects (RefreshesRows id moment e)) q ≡ stream_at objects q
-stream_refreshed stamp id moment e objects q = stream_versioned stamp moment id e objects q
+pub stream_refreshed : (stamp id moment : ℕ) (e : Edits) (c : Option GroupsChange) (objects : List Object) (q : ℕ)
+    → stream_at (acted stamp objects (RefreshesRows id moment e c)) q ≡ stream_at objects q
+stream_refreshed stamp id moment e c objects q = stream_stays (refreshed_object stamp moment e c)
+    (λ o. stream_of_dynamic (with_groups c) (edited_kind stamp moment e o.kind)
+    ∙ stream_of_table (edited_table stamp moment e) o.kind) objects id q
 
 stream_moved : (stamp id offset : ℕ) (objects : List Object) (q : ℕ)
     → stream_at (acted stamp objects (MovesOffset id offset)) q

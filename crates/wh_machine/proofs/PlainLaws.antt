@@ -64,7 +64,7 @@ task_still stamp (MovesOffset id offset) is = absurd is
 task_still stamp (MakesTask name minutes after runs) is = absurd is
 task_still stamp (MakesDynamic name lag is_incremental query columns) is = absurd is
 task_still stamp (PutsDynamic id state) is = absurd is
-task_still stamp (RefreshesRows id moment e) is = absurd is
+task_still stamp (RefreshesRows id moment e c) is = absurd is
 
 pub tasks_still : (stamp : ℕ) (acts : List Act) → AllByRecursion IsOfTasks acts → AllByRecursion (IsStill stamp) acts
 tasks_still stamp acts are = all_map IsOfTasks (IsStill stamp) (task_still stamp) acts are

@@ -1,5 +1,5 @@
 -- What is written for a refresh applies.
---     AreStanding         the row numbers of dynamic tables and the moments of their last versions
+--     AreStanding         the row numbers of dynamic tables, the moments of their last versions, and their groups
 --     all_live            where no source is lost, all that is upstream of a live table lives
 --     refresh_goes        a refresh that brings some
 use Rattle.std.proofs.Common.{◌≡◌, ℕ, ◌≤◌, Bool, true, false, cond, List, [], ◌∷◌, ◌++◌, map, Option, Some, None}
@@ -7,12 +7,13 @@ use Rattle.std.proofs.Common.{option_map}
 use Rattle.std.proofs.Common.{refl, sym, ap, subst, ◌∙◌, arith}
 use Rattle.std.specs.Prelude.{not, ◌||◌, nat_eq, nat_lt, unwrap_or}
 use Rattle.std.specs.List.{AllByRecursion, filter, list_any, flat_map}
-use Rattle.std.specs.Option.{IsSomeAnd, option_and_then, option_map_or}
+use Rattle.std.specs.Option.{IfSome, IsSomeAnd, option_and_then, option_map_or}
 use Rattle.std.proofs.lemmas.Bool.Decides.{nat_tests}
 use Rattle.wh_value.specs.declared.limit.Limit.TheVariants as limits
 use Rattle.wh_ddl_naming.proofs.QueryLaws.{all_in_front, all_behind}
 use Rattle.wh_reply.specs.Reply.{Refusal, Refreshed, OverLimit, SourceGone}
 use Rattle.wh_state.specs.State.{State, TableKind, StreamKind, TaskKind, DynamicKind, Object, VersionOf, at_id, last_of}
+use Rattle.wh_state.specs.State.{dynamic_in}
 use Rattle.wh_frame.specs.Partition.{Partition}
 use Rattle.wh_state.specs.Dynamic.{DynamicState, Dynamic, ids_read}
 use Rattle.wh_state.specs.Objects.{as_dynamic, dynamic_at, is_live_at, name_at}
@@ -27,7 +28,7 @@ use Rattle.wh_state.proofs.MeaningLaws.{at_id_meant}
 use Rattle.wh_state.proofs.AppliesLaws.{IsBelowNext}
 use Rattle.wh_state.proofs.FirmLaws.{IsFirm}
 use Rattle.wh_state.proofs.WrittenLaws.{AllGo}
-use Rattle.wh_state.proofs.BroughtGoes.{KindRefreshable, Refreshable}
+use Rattle.wh_state.proofs.BroughtGoes.{KindRefreshable}
 use Rattle.wh_moment.specs.Upstream.{Watched, watched_object, dynamics_of, watched_at, upstream, is_below}
 use Rattle.wh_moment.specs.Upstream.{stands_below, brought}
 use Rattle.wh_moment.proofs.UpstreamLaws.{brought_rise}
@@ -37,7 +38,8 @@ use Rattle.wh_machine.specs.Refresh.{Brought, acts_of_one, brought_all, is_row_p
 use Rattle.wh_machine.specs.Refresh.{lost_source, first_lost, told_of, Refreshing, Brings, unless_past, refresh_by}
 use Rattle.wh_machine.specs.Refresh.{with_upstream, refresh}
 use Rattle.wh_machine.proofs.PassedLaws.{passed}
-use Rattle.wh_machine.proofs.BroughtWorks.{IsWithinNumbers, all_go}
+use Rattle.wh_machine.proofs.GroupsBrought.{HasItsGroups}
+use Rattle.wh_machine.proofs.BroughtWorks.{IsWithinNumbers, MayBring, all_go}
 
 -- ---- tests of lists
 
@@ -71,7 +73,7 @@ abbrev pub KindStands : StoredKind → Type 0
 KindStands (TableKind t) = Unit {0}
 KindStands (StreamKind s) = Unit {0}
 KindStands (TaskKind t) = Unit {0}
-KindStands (DynamicKind d t) = IsBelowNext t × DoesNotFall (last_of t.versions) d.state.moment
+KindStands (DynamicKind d t) = IsBelowNext t × (DoesNotFall (last_of t.versions) d.state.moment × HasItsGroups d)
 
 abbrev pub AreStanding : List StoredObject → Type 0
 AreStanding objects = AllByRecursion (λ o. KindStands o.kind) objects
@@ -187,7 +189,7 @@ module _ (objects : List StoredObject) where
   -- ---- tables that may be brought
 
   may_bring : AreStanding objects → (moment id : ℕ) → Lives id → stands_below (dynamics_of meant) moment id ≡ true
-      → FoundAt (Refreshable moment) objects id
+      → FoundAt (MayBring moment) objects id
   may_bring standing moment id live below =
       by_found (at_id objects id) refl (sym (live_found id) ∙ live)
       (sym (ap (λ (found : Option Watched). option_map_or (λ w. is_below moment w.state) found false)
@@ -196,29 +198,32 @@ module _ (objects : List StoredObject) where
     where
       by_kind : (o : StoredObject) (k : StoredKind) → KindStands k
           → option_map_or (λ w. is_below moment w.state) (watched_object (object_meant (record o { kind = k }))) false
-          ≡ true → KindRefreshable moment k
+          ≡ true → KindRefreshable moment k × IfSome (dynamic_in k) HasItsGroups
       by_kind o (TableKind t) stands below = absurd cc
       by_kind o (StreamKind s) stands below = absurd cc
       by_kind o (TaskKind t) stands below = absurd cc
       by_kind o (DynamicKind d t) stands below =
-          let moment_is : d.state.moment ≤ moment = below_is moment d.state below in
-          (moment_is, (stands.0, falls_later (last_of t.versions) d.state.moment moment moment_is stands.1))
+          let moment_is : d.state.moment ≤ moment = below_is moment d.state below in (
+            (moment_is, (stands.0, falls_later (last_of t.versions) d.state.moment moment moment_is stands.1.0)),
+            stands.1.1,
+          )
 
       by_found : (found : Option StoredObject) → at_id objects id ≡ found
           → option_map_or (λ o. o.is_live) found false ≡ true
           → option_map_or (λ w. is_below moment w.state) (option_and_then (λ o. watched_object (object_meant o)) found)
-          false ≡ true → IsSomeAnd found (Refreshable moment)
+          false ≡ true → IsSomeAnd found (MayBring moment)
       by_found None none live below = absurd cc
       by_found (Some o) there live below =
-          (live, by_kind o o.kind (all_at (λ o. KindStands o.kind) objects id o standing there) below)
+          let may = by_kind o o.kind (all_at (λ o. KindStands o.kind) objects id o standing there) below in
+          ((live, may.0), may.1)
 
   all_may : AreStanding objects → (moment id : ℕ) → AllByRecursion Lives (upstream (dynamics_of meant) id ++ id ∷ [])
-      → AllByRecursion (FoundAt (Refreshable moment) objects) (brought (dynamics_of meant) id moment)
+      → AllByRecursion (FoundAt (MayBring moment) objects) (brought (dynamics_of meant) id moment)
   unfolding brought
   all_may standing moment id live =
       let below : ℕ → Bool = stands_below (dynamics_of meant) moment in
       let all : List ℕ = upstream (dynamics_of meant) id ++ id ∷ [] in
-      all_both Lives (λ n. below n ≡ true) (FoundAt (Refreshable moment) objects)
+      all_both Lives (λ n. below n ≡ true) (FoundAt (MayBring moment) objects)
       (λ n live is. may_bring standing moment n live is) (filter below all)
       (all_filter Lives below all live) (filtered_pass below all)
 

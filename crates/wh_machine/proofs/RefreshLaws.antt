@@ -31,7 +31,7 @@ use Rattle.wh_moment.specs.Rebase.{rebase}
 use Rattle.wh_moment.proofs.UpstreamLaws.{RiseFrom, brought_rise, IsWatched, brought_watched, watched_kind}
 use Rattle.wh_machine.specs.Tests.{first_of}
 use Rattle.wh_machine.specs.Refresh.{Brought, brought_as, brought_by, brought_with, brought_one, action_of}
-use Rattle.wh_machine.specs.Refresh.{version_acts}
+use Rattle.wh_machine.specs.Refresh.{version_acts, groups_brought}
 use Rattle.wh_machine.specs.Refresh.{acts_of_one, brought_then, brought_all, number_refusal, first_lost, told_of}
 use Rattle.wh_machine.specs.Refresh.{Refreshing, Fails, Brings, unless_past, refresh_by, with_upstream, refresh}
 use Rattle.wh_machine.specs.Outcome.{Machine, commits}
@@ -53,8 +53,8 @@ brought_id objects moment id b is = by_found (dynamic_at objects id) (table_at o
     of_some x at is = let same : x ≡ b = cc in ap (λ (y : Brought). y.id) (sym same) ∙ at
 
     by_rows : (d : Dynamic) (t : Table) (action : RefreshAction) (found : Option Bag)
-        → option_map (λ rows. brought_as id moment d.state action (Some (rebase (last_rows t) rows))) found ≡ Some b
-        → b.id ≡ id
+        → option_map (λ rows. brought_as id moment d.state action (Some (rebase (last_rows t) rows))
+        (groups_brought objects moment d)) found ≡ Some b → b.id ≡ id
     by_rows d t action None is = absurd cc
     by_rows d t action (Some rows) is = of_some _ refl is
 
@@ -98,12 +98,12 @@ brought_ids stamp moment (id ∷ ids) objects all is =
 -- ---- their acts
 
 abbrev pub IsOfRefresh : Act → Type 0
-IsOfRefresh (RefreshesRows id moment e) = Unit {0}
+IsOfRefresh (RefreshesRows id moment e c) = Unit {0}
 IsOfRefresh (PutsDynamic id state) = Unit {0}
 IsOfRefresh _ = ⊥
 
 pub refresh_moves_none : (act : Act) → IsOfRefresh act → MovesNone act
-refresh_moves_none (RefreshesRows id moment e) is = tt
+refresh_moves_none (RefreshesRows id moment e c) is = tt
 refresh_moves_none (PutsDynamic id state) is = tt
 refresh_moves_none (MakesTable name columns retention) is = absurd is
 refresh_moves_none (DropsObject id) is = absurd is
@@ -120,7 +120,7 @@ one_is : (moment : ℕ) (b : Brought) → AllByRecursion IsOfRefresh (acts_of_on
 one_is moment b = by_edits b.edits
   where
     by_edits : (edits : Option Edits)
-        → AllByRecursion IsOfRefresh (version_acts b.id moment edits ++ PutsDynamic b.id b.state ∷ [])
+        → AllByRecursion IsOfRefresh (version_acts b.id moment edits b.groups ++ PutsDynamic b.id b.state ∷ [])
     by_edits None = (tt, tt)
     by_edits (Some e) = (tt, (tt, tt))
 
@@ -136,7 +136,7 @@ brought_shape moment least [] rise = no_more_edits
 brought_shape moment least (b ∷ others) rise = by_edits b.edits (brought_shape moment (suc b.id) others rise.1)
   where
     by_edits : (edits : Option Edits) → AreEditsFrom (suc b.id) (flat_map (acts_of_one moment) others)
-        → AreEditsFrom least ((version_acts b.id moment edits ++ PutsDynamic b.id b.state ∷ [])
+        → AreEditsFrom least ((version_acts b.id moment edits b.groups ++ PutsDynamic b.id b.state ∷ [])
         ++ flat_map (acts_of_one moment) others)
     by_edits None rest = other_act tt (from_less least (suc b.id) _ (omega (arith, rise.0)) rest)
     by_edits (Some e) rest = next_refresh rise.0 (other_act tt rest)
@@ -147,7 +147,7 @@ one_moves_on : (s : State) (moment : ℕ) (b : Brought) → base_at s.objects b.
 one_moves_on s moment b none = by_edits b.edits
   where
     by_edits : (edits : Option Edits)
-        → AllMoveOn s (version_acts b.id moment edits ++ PutsDynamic b.id b.state ∷ [])
+        → AllMoveOn s (version_acts b.id moment edits b.groups ++ PutsDynamic b.id b.state ∷ [])
     by_edits None = (tt, tt)
     by_edits (Some e) = (none, (tt, tt))
 
@@ -233,7 +233,7 @@ base_less objects o (suc place) none = of_place objects place none
 refresh_before : (m : Machine) (n : NewDynamicTable) (query : DynamicQuery) (acts : List Act)
     → AllByRecursion IsOfRefresh acts → AllMoveOn (with_dynamic m.state n query) acts → AllMoveOn m.state acts
 refresh_before m n query [] are on = tt
-refresh_before m n query (RefreshesRows id moment e ∷ acts) are on =
+refresh_before m n query (RefreshesRows id moment e c ∷ acts) are on =
     (base_less m.state.objects _ id on.0, refresh_before m n query acts are.1 on.1)
 refresh_before m n query (PutsDynamic id state ∷ acts) are on = (tt, refresh_before m n query acts are.1 on.1)
 refresh_before m n query (MakesTable name columns retention ∷ acts) are on = absurd are.0

@@ -166,7 +166,7 @@ seen_fits s m session id o t reached there is =
     holds : (e : Edits) → FoundAt (HoldsEdits e) s.objects id → EditsFit t.columns e
     holds e h =
         subst (λ (found : Option StoredTable). IsSomeAnd found (λ t. EditsFit t.columns e)) is
-        (subst (λ (found : Option StoredObject). IsSomeAnd found (HoldsEdits e)) there h).1
+        (subst (λ (found : Option StoredObject). IsSomeAnd found (HoldsEdits e)) there h).1.0
 
     by_transaction : (found : Option Transaction) → transaction_in m.sessions session ≡ found → StandsOn s.objects found
         → SeesTable m session id t.columns

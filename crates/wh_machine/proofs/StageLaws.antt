@@ -1,5 +1,5 @@
 -- Effects that fit, on top of what a transaction holds.
---     EffectFits, HoldsEffect     the rows of an effect fit a live table
+--     EffectFits, HoldsEffect     the rows of an effect fit a live base table
 --     later_fit                   edits with an effect more fit
 --     staged_stands               a transaction with it stands
 --     alone_stands                so does one of a change by itself
@@ -31,6 +31,7 @@ use Rattle.wh_state.proofs.RowLaws.{number_tied}
 use Rattle.wh_state.proofs.FoundLaws.{FoundAt}
 use Rattle.wh_state.proofs.PartLaws.{edited_all}
 use Rattle.wh_state.proofs.AppliesLaws.{EditsFit}
+use Rattle.wh_state.proofs.WrittenLaws.{IsBase}
 use Rattle.wh_machine.specs.Offsets.{with_stream, with_streams}
 use Rattle.wh_machine.specs.Changes.{Changed, Fails, Gives, edits_of, reply_to}
 use Rattle.wh_machine.specs.Transaction.{Staged, Transaction, begun, staged_in, with_effect, next_row_of, staged}
@@ -47,7 +48,7 @@ pub record EffectFits (columns : List Column) (e : Effect) : Type 0 where
   pub added : AllByRecursion (λ row. IsTrue (row_fits columns row)) e.added
 
 abbrev pub HoldsEffect : Effect → StoredObject → Type 0
-HoldsEffect e o = IsTrue o.is_live × IsSomeAnd (table_in o.kind) (λ t. EffectFits t.columns e)
+HoldsEffect e o = IsTrue o.is_live × (IsSomeAnd (table_in o.kind) (λ t. EffectFits t.columns e) × IsBase o)
 
 -- ---- edits by numbers
 
@@ -174,7 +175,7 @@ staged_fits objects t id next e stands holds = by_staged (get t.tables id) refl
     with_found : (found : Option StoredObject) (old : Edits) → IsSomeAnd found (HoldsEdits old)
         → IsSomeAnd found (HoldsEffect e) → IsSomeAnd found (HoldsEdits (later_edits next old (edits_of e)))
     with_found None old before fits = absurd before
-    with_found (Some o) old before fits = (before.0, with_kind o.kind old before.1 fits.1)
+    with_found (Some o) old before fits = (before.0, (with_kind o.kind old before.1.0 fits.1.0, before.1.1))
 
     untouched_kind : (k : StoredKind) → IsSomeAnd (table_in k) (λ t. EffectFits t.columns e)
         → IsSomeAnd (table_in k) (λ t. EditsFit t.columns no_edits)
@@ -186,7 +187,7 @@ staged_fits objects t id next e stands holds = by_staged (get t.tables id) refl
     untouched_found : (found : Option StoredObject) → IsSomeAnd found (HoldsEffect e) →
         IsSomeAnd found (HoldsEdits no_edits)
     untouched_found None fits = absurd fits
-    untouched_found (Some o) fits = (fits.0, untouched_kind o.kind fits.1)
+    untouched_found (Some o) fits = (fits.0, (untouched_kind o.kind fits.1.0, fits.1.1))
 
     by_staged : (found : Option Staged) → get t.tables id ≡ found
         → FoundAt (HoldsEdits (later_edits next (staged_in found).edits (edits_of e))) objects id

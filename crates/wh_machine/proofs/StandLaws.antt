@@ -1,6 +1,6 @@
 -- Transactions over the objects of a file.
 --     HoldsEdits, IsLiveStream     what a transaction holds
---     StandsOn, AllStandOn         transactions that hold live tables that their edits fit, and live streams
+--     StandsOn, AllStandOn         transactions that hold live base tables that their edits fit, and live streams
 --     stand_through                they still do behind changes of which none drops what they hold
 --     commit_stands                the acts of a transaction that no limit refuses
 use Rattle.std.proofs.Common.{◌≡◌, ℕ, ◌+◌, ◌≤◌, Bool, true, false, cond, List, []}
@@ -19,7 +19,7 @@ use Rattle.wh_state.specs.State.{TaskKind, DynamicKind}
 use Rattle.wh_state.specs.State.{Version, Stream, Object, at_id, last_of}
 use Rattle.wh_state.specs.State.{TableKind, StreamKind, table_in, stream_in}
 use Rattle.wh_state.specs.Objects.{stream_at, table_at}
-use Rattle.wh_state.specs.Objects.{as_table, as_stream}
+use Rattle.wh_state.specs.Objects.{is_table, as_table, as_stream}
 use Rattle.wh_state.specs.Edits.{Edits, partitions_made}
 use Rattle.wh_state.specs.Act.{MovesOffset}
 use Rattle.wh_state.specs.Stored.{StoredVersion, StoredTable, StoredKind, StoredObject}
@@ -33,7 +33,7 @@ use Rattle.wh_state.proofs.FoundLaws.{FoundAt}
 use Rattle.wh_state.proofs.MeaningLaws.{at_id_meant, table_at_meant, stream_at_meant, last_partitions_meant}
 use Rattle.wh_state.proofs.AppliesLaws.{EditsFit}
 use Rattle.wh_state.proofs.BelowLaws.{rows_below}
-use Rattle.wh_state.proofs.WrittenLaws.{EditsApply, EditStands, TakesMove, ActStands, AllStand}
+use Rattle.wh_state.proofs.WrittenLaws.{EditsApply, EditStands, IsBase, TakesMove, ActStands, AllStand}
 use Rattle.wh_state.proofs.WrittenLaws.{KeptByCommits, ChangeSpares, found_through}
 use Rattle.wh_machine.specs.Offsets.{offset_move, offset_moves}
 use Rattle.wh_machine.specs.Transaction.{Staged, Transaction, start_of, edit_act, touched, next_row_of, row_past}
@@ -41,12 +41,12 @@ use Rattle.wh_machine.specs.Transaction.{next_partition_of, partition_past, firs
 use Rattle.wh_machine.specs.Transaction.{or_else}
 use Rattle.wh_machine.specs.Sessions.{Sessions}
 use Rattle.wh_machine.proofs.GotLaws.{entries_hold}
-use Rattle.wh_state.proofs.KindLaws.{task_keeps, dynamic_keeps}
+use Rattle.wh_state.proofs.KindLaws.{offset_keeps, task_keeps, dynamic_keeps}
 
 -- ---- what a transaction holds
 
 abbrev pub HoldsEdits : Edits → StoredObject → Type 0
-HoldsEdits e o = IsTrue o.is_live × IsSomeAnd (table_in o.kind) (λ t. EditsFit t.columns e)
+HoldsEdits e o = IsTrue o.is_live × (IsSomeAnd (table_in o.kind) (λ t. EditsFit t.columns e) × IsBase o)
 
 abbrev pub IsLiveStream : StoredObject → Type 0
 IsLiveStream o = IsTrue o.is_live × IsSomeAnd (stream_in o.kind) (λ s. Unit {0})
@@ -64,28 +64,39 @@ AllStandOn objects sessions = AllByRecursion (StandsOn objects) sessions
 
 -- ---- behind a commit
 
-pub edits_kept : (e : Edits) → KeptByCommits (HoldsEdits e)
-edits_kept e = record {
-  pushes = λ stamp c o h. (h.0, pushed o.kind stamp c h.1);
-  sets =
-      λ offset o h. (h.0, moved o.kind offset h.1);
-  tasks = λ f o h. (h.0, task_keeps (λ k. IsSomeAnd (table_in k) (λ t. EditsFit t.columns e)) f (λ t h. h) o.kind h.1);
-  dynamics = λ f o h. (
-    h.0,
-    dynamic_keeps (λ k. IsSomeAnd (table_in k) (λ t. EditsFit t.columns e)) f (λ d t h. h) o.kind h.1,
-  );
+base_kept : KeptByCommits IsBase
+base_kept = record {
+  pushes = λ stamp c o h. pushed o.kind stamp c h;
+  sets = λ offset o h. offset_keeps (λ k. IsTrue (is_table k)) offset (λ s h. h) o.kind h;
+  tasks = λ f o h. task_keeps (λ k. IsTrue (is_table k)) f (λ t h. h) o.kind h;
+  dynamics = λ f o h. dynamic_keeps (λ k. IsTrue (is_table k)) f (λ d t h. h) o.kind h;
 }
   where
-    pushed : (k : StoredKind) (stamp : ℕ) (c : VersionChange)
-        → IsSomeAnd (table_in k) (λ t. EditsFit t.columns e)
-        → IsSomeAnd (table_in (pushed_kind stamp c k)) (λ t. EditsFit t.columns e)
+    pushed : (k : StoredKind) (stamp : ℕ) (c : VersionChange) → IsTrue (is_table k)
+        → IsTrue (is_table (pushed_kind stamp c k))
+    pushed (TableKind t) stamp c h = h
+    pushed (StreamKind s) stamp c h = h
+    pushed (TaskKind t) stamp c h = h
+    pushed (DynamicKind d t) stamp c h = h
+
+pub edits_kept : (e : Edits) → KeptByCommits (HoldsEdits e)
+edits_kept e = record {
+  pushes = λ stamp c o h. (h.0, (pushed o.kind stamp c h.1.0, base_kept.pushes stamp c o h.1.1));
+  sets = λ offset o h. (h.0, (moved o.kind offset h.1.0, base_kept.sets offset o h.1.1));
+  tasks = λ f o h. (h.0, (task_keeps Fits f (λ t h. h) o.kind h.1.0, base_kept.tasks f o h.1.1));
+  dynamics = λ f o h. (h.0, (dynamic_keeps Fits f (λ d t h. h) o.kind h.1.0, base_kept.dynamics f o h.1.1));
+}
+  where
+    Fits : StoredKind → Type 0
+    Fits k = IsSomeAnd (table_in k) (λ t. EditsFit t.columns e)
+
+    pushed : (k : StoredKind) (stamp : ℕ) (c : VersionChange) → Fits k → Fits (pushed_kind stamp c k)
     pushed (TableKind t) stamp c h = record { rows = h.rows; added = h.added }
     pushed (StreamKind s) stamp c h = absurd h
     pushed (TaskKind t) stamp c h = absurd h
     pushed (DynamicKind d t) stamp c h = record { rows = h.rows; added = h.added }
 
-    moved : (k : StoredKind) (offset : ℕ) → IsSomeAnd (table_in k) (λ t. EditsFit t.columns e)
-        → IsSomeAnd (table_in (offset_set_kind offset k)) (λ t. EditsFit t.columns e)
+    moved : (k : StoredKind) (offset : ℕ) → Fits k → Fits (offset_set_kind offset k)
     moved (TableKind t) offset h = h
     moved (StreamKind s) offset h = absurd h
     moved (TaskKind t) offset h = absurd h
@@ -248,8 +259,12 @@ edit_stands committed stamp h objects sound entry within holds =
           (object_meant o) sound
           (at_id_meant objects entry.0 ∙ ap (option_map object_meant) there))
           (table_at_meant objects entry.0 ∙ ap (λ found. option_map table_meant (option_and_then as_table found))
-          there) holds.1,
+          there) holds.1.0,
     )
+
+holds_base : (e : Edits) (found : Option StoredObject) → IsSomeAnd found (HoldsEdits e) → IsSomeAnd found IsBase
+holds_base e None holds = absurd holds
+holds_base e (Some o) holds = holds.1.1
 
 -- ---- moves
 
@@ -292,7 +307,7 @@ moves_of_all stamp start objects (id ∷ ids) live =
 -- ---- a commit
 
 edits_stand : (stamp start : ℕ) (objects : List StoredObject) (found : List (ℕ × Staged))
-    → AllByRecursion (λ entry. FoundAt (EditStands stamp entry.1.edits) objects entry.0) found
+    → AllByRecursion (λ entry. ActStands stamp start objects (edit_act entry)) found
     → AllStand stamp start objects (map edit_act found)
 edits_stand stamp start objects [] stand = tt
 edits_stand stamp start objects (entry ∷ others) stand = (stand.0, edits_stand stamp start objects others stand.1)
@@ -309,8 +324,11 @@ commit_stands committed stamp h objects t sound none stands =
     (edits_stand stamp (start_of t) objects (touched t)
     (all_both (IsWithinLimits (map object_meant objects))
     (λ entry. FoundAt (HoldsEdits entry.1.edits) objects entry.0)
-    (λ entry. FoundAt (EditStands stamp entry.1.edits) objects entry.0)
-    (λ entry within holds. edit_stands committed stamp h objects sound entry within holds) (touched t)
+    (λ entry. ActStands stamp (start_of t) objects (edit_act entry))
+    (λ entry within holds. (
+      edit_stands committed stamp h objects sound entry within holds,
+      holds_base entry.1.edits (at_id objects entry.0) holds,
+    )) (touched t)
     (within_limits (map object_meant objects) t none)
     (all_filter (λ entry. FoundAt (HoldsEdits entry.1.edits) objects entry.0) (λ entry. entry.1.is_touched)
     (entries t.tables)

@@ -316,7 +316,8 @@ works_start : (s : Stored) (m : Machine) (reply : Reply) (root : ℕ) → IsReac
     → Works s m (commits m reply (start_acts m.state.objects root))
 works_start s m reply root reached r own running =
     let start = start_applies s m root reached r own running in
-    works_made s m reply (start_acts m.state.objects root) reached (λ other. (tt, tt)) (start.0, (start.1, tt))
+    works_made s m reply (start_acts m.state.objects root) reached (λ other. (tt, tt))
+    (record { applies = (start.0, tt); rises = (start.1, tt); follows = (refl, refl) })
 
 pub works_execute : (s : Stored) (m : Machine) (session : ℕ) (name : List ℕ) → IsReached s m
     → Works s m (defines m session None
@@ -355,10 +356,10 @@ works_scheduled s m reply root reached r own running =
     let start = start_applies s m root reached r own running in
     let state : TaskState = record r.task.state { last_start = m.state.last } in
     works_made s m reply (scheduled_acts m.state.objects m.state.last root r.task.state) reached
-    (λ other. (tt, (tt, tt))) (
-      live_task_at (λ t. state.failures ≤ most_failures) s.objects root r (firm_at s.objects root reached.firm r).0.few,
-      (
-        tt,
+    (λ other. (tt, (tt, tt))) (record {
+      applies = (
+        live_task_at (λ t. state.failures ≤ most_failures) s.objects root r
+            (firm_at s.objects root reached.firm r).0.few,
         (
           record {
             none = found_changed (λ o. IsTrue o.is_live × IsSomeAnd (task_in o.kind) AtRest)
@@ -371,10 +372,12 @@ works_scheduled s m reply root reached r own running =
                 (state_spares (λ t. t.root ≡ root) state (λ t h. h)) s.objects root id h)
                 (kept_tasks (live_tasks m.state.objects) root) start.0.members;
           },
-          (start.1, tt),
+          tt,
         ),
-      ),
-    )
+      );
+      rises = (tt, (start.1, tt));
+      follows = (refl, (refl, refl));
+    })
   where
     AtRest : Task → Type 0
     AtRest t = (t.root ≡ root) × (list_any waits t.run ≡ false)

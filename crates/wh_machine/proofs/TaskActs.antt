@@ -46,7 +46,7 @@ define (MovesOffset id offset) is = absurd is
 define (MakesTask name minutes after runs) is = absurd is
 define (MakesDynamic name lag is_incremental query columns) is = absurd is
 define (PutsDynamic id state) is = absurd is
-define (RefreshesRows id moment e) is = absurd is
+define (RefreshesRows id moment e c) is = absurd is
 
 all_define : (acts : List Act) → AllByRecursion IsOfTasks acts → AllByRecursion Defines acts
 all_define acts are = all_map IsOfTasks Defines define acts are
@@ -104,7 +104,7 @@ edits_more least (act ∷ acts) more (other_act other rising) others =
     other_act other (edits_more least acts more rising others)
 edits_more least (EditsRows id e ∷ acts) more (next_edit from rising) others =
     next_edit from (edits_more _ acts more rising others)
-edits_more least (RefreshesRows id moment e ∷ acts) more (next_refresh from rising) others =
+edits_more least (RefreshesRows id moment e c ∷ acts) more (next_refresh from rising) others =
     next_refresh from (edits_more _ acts more rising others)
 
 pub acted_append : (stamp : ℕ) (objects : List Object) (acts more : List Act)

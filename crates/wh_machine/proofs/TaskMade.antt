@@ -287,21 +287,25 @@ works_create_task s m session t reached filled =
     let are = predecessors_are s m root t.after reached (none_wrong _ found.1) in
     let graph = fits_graph s m root b.value.after reached are tests.1.graph in
     works_made s m (CreatedTask t.name)
-    (MakesTask t.name (unwrap_or t.minutes 0) b.value.after (body_of b.value) ∷ []) reached (λ id. (tt, tt)) (
-      record {
-        object = record {
-          next_id = refl;
-          few = omega (arith, tests.1.few, live_is s m reached);
-          free = free_of_all t.name s.objects (free_taken s m t.name reached found.0);
-          name = (filled.name, tests.1.name);
-        };
-        minutes = minutes_within t.minutes tests.1.schedule;
-        either = either_is b.value (mapped_either t
-            (λ name. (predecessor (names_in m.state.objects) root name).value) filled.either);
-        few_after = tests.1.few_after;
-        after = graph.after_live;
-        few_tasks = graph.few_tasks;
-        few_children = few_each s m reached b.value.after tests.1.children;
-      },
-      (filled.body, tt),
-    )))
+    (MakesTask t.name (unwrap_or t.minutes 0) b.value.after (body_of b.value) ∷ []) reached (λ id. (tt, tt)) (record {
+      applies = (
+        record {
+          object = record {
+            next_id = refl;
+            few = omega (arith, tests.1.few, live_is s m reached);
+            free = free_of_all t.name s.objects (free_taken s m t.name reached found.0);
+            name = (filled.name, tests.1.name);
+          };
+          minutes = minutes_within t.minutes tests.1.schedule;
+          either = either_is b.value (mapped_either t
+              (λ name. (predecessor (names_in m.state.objects) root name).value) filled.either);
+          few_after = tests.1.few_after;
+          after = graph.after_live;
+          few_tasks = graph.few_tasks;
+          few_children = few_each s m reached b.value.after tests.1.children;
+        },
+        tt,
+      );
+      rises = (filled.body, tt);
+      follows = (refl, refl);
+    })))

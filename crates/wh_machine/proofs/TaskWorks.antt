@@ -26,6 +26,7 @@ use Rattle.wh_state.proofs.FoundLaws.{FoundAt, found_some}
 use Rattle.wh_state.proofs.MeaningLaws.{task_at_meant}
 use Rattle.wh_state.proofs.TaskFirm.{IsTaskOf, TaskHolds, IsFirmTask, IsRooted}
 use Rattle.wh_state.proofs.FirmLaws.{IsFirm}
+use Rattle.wh_state.proofs.WrittenLaws.{go_none}
 use Rattle.wh_graph.specs.Graph.{is_under_way}
 use Rattle.wh_machine.specs.Names.{object_kind, names_in, refusal_of}
 use Rattle.wh_machine.specs.Sessions.{holder}
@@ -92,12 +93,16 @@ works_put s m reply id new reached few is =
     (by_same (is_same_state is.task.state (new is.task)))
   where
     by_same : (same : Bool) → Works s m (commits m reply (cond same [] (PutsTask id (new is.task) ∷ [])))
-    by_same true = works_made s m reply [] reached (λ other. tt) tt
-    by_same false = works_made s m reply (PutsTask id (new is.task) ∷ []) reached (λ other. (tt, tt)) (
-      live_task_at (λ t. (new is.task).failures ≤ most_failures) s.objects id is
-          (few is.task (firm_at s.objects id reached.firm is).0.few),
-      (tt, tt),
-    )
+    by_same true = works_made s m reply [] reached (λ other. tt) (go_none m.state.last s.objects)
+    by_same false = works_made s m reply (PutsTask id (new is.task) ∷ []) reached (λ other. (tt, tt)) (record {
+      applies = (
+        live_task_at (λ t. (new is.task).failures ≤ most_failures) s.objects id is
+            (few is.task (firm_at s.objects id reached.firm is).0.few),
+        tt,
+      );
+      rises = (tt, tt);
+      follows = (refl, refl);
+    })
 
 pub works_suspend : (s : Stored) (m : Machine) (session : ℕ) (name : List ℕ) → IsReached s m
     → Works s m (defines m session None
@@ -236,18 +241,22 @@ works_task_gone s m reply id reached free is running children =
     (subst (λ (root : ℕ). root_running m.state.objects root ≡ None) root_is running) in
     let none = subst (λ (objects : List Object). children_from id 1 objects ≡ []) (objects_meant s m reached)
     (no_children m.state.objects (children_from id 1 m.state.objects) children) in
-    works_defined s m reply (DropsObject id ∷ []) id reached free (refl, tt) (
-      (
-        found_some (λ o. IsTrue o.is_live) s.objects id is.object is.there is.live,
-        subst (λ (found : Option Task). IfSome found (TaskMayGo s.objects id))
-            (sym (ap (option_and_then as_task) is.there ∙ is.is_task)) (record {
-              childless = sym (length-filter (is_member (λ t. is_among id t.after)) s.objects)
-                  ∙ childless id 1 s.objects none;
-              at_rest = live_task_at (λ t. list_any waits t.run ≡ false) s.objects is.task.root r.0 rest;
-            }),
-      ),
-      (tt, tt),
-    )
+    works_defined s m reply (DropsObject id ∷ []) id reached free (refl, tt) (record {
+      applies = (
+        (
+          found_some (λ o. IsTrue o.is_live) s.objects id is.object is.there is.live,
+          subst (λ (found : Option Task). IfSome found (TaskMayGo s.objects id))
+              (sym (ap (option_and_then as_task) is.there ∙ is.is_task)) (record {
+                childless = sym (length-filter (is_member (λ t. is_among id t.after)) s.objects)
+                    ∙ childless id 1 s.objects none;
+                at_rest = live_task_at (λ t. list_any waits t.run ≡ false) s.objects is.task.root r.0 rest;
+              }),
+        ),
+        tt,
+      );
+      rises = (tt, tt);
+      follows = (refl, refl);
+    })
 
 pub works_drop_task : (s : Stored) (m : Machine) (session : ℕ) (name : List ℕ) → IsReached s m
     → Works s m (defines m session (Some (object_of TaskObject (names_in m.state.objects) name).value)

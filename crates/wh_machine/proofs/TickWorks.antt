@@ -28,7 +28,7 @@ use Rattle.wh_state.proofs.MeaningLaws.{at_id_meant, task_at_meant}
 use Rattle.wh_state.proofs.SpelledLaws.{HasTokensOf}
 use Rattle.wh_state.proofs.TaskFirm.{IsFirmTask, IsRooted, TaskHolds}
 use Rattle.wh_state.proofs.FirmLaws.{IsFirm}
-use Rattle.wh_state.proofs.WrittenLaws.{AllGo, ChangeSpares, acts_go}
+use Rattle.wh_state.proofs.WrittenLaws.{AllGo, ChangeSpares, acts_go, go_none}
 use Rattle.wh_state.proofs.EndLaws.{AreOfRows, acts_of_rows, rows_spare, live_behind, written_append, go_behind}
 use Rattle.wh_state.proofs.EndLaws.{AllWait}
 use Rattle.wh_state.proofs.EndLaws.{live_map, GoesBehind, ends_go}
@@ -176,7 +176,7 @@ tasks_spare stamp objects (MovesOffset other offset ∷ acts) are id = absurd ar
 tasks_spare stamp objects (MakesTask name minutes after runs ∷ acts) are id = absurd are.0
 tasks_spare stamp objects (MakesDynamic name lag is_incremental query columns ∷ acts) are id = absurd are.0
 tasks_spare stamp objects (PutsDynamic other state ∷ acts) are id = absurd are.0
-tasks_spare stamp objects (RefreshesRows other moment e ∷ acts) are id = absurd are.0
+tasks_spare stamp objects (RefreshesRows other moment e c ∷ acts) are id = absurd are.0
 
 still_few : (failed : Bool) (state : TaskState) → state.failures ≤ most_failures
     → (state_behind failed state).failures ≤ most_failures
@@ -203,15 +203,19 @@ graph_goes stamp root state behind few later live = by_way (is_under_way behind)
     new = state_behind (has_failed behind) state
 
     by_same : (same : Bool) → AllGo stamp later (written stamp later (cond same [] (PutsTask root new ∷ [])))
-    by_same true = tt
-    by_same false = (
-      live_map (λ t. Unit {0}) (λ t. new.failures ≤ most_failures) (λ t is. still_few (has_failed behind) state few)
-          (at_id later root) live,
-      (tt, tt),
-    )
+    by_same true = go_none stamp later
+    by_same false = record {
+      applies = (
+        live_map (λ t. Unit {0}) (λ t. new.failures ≤ most_failures)
+            (λ t is. still_few (has_failed behind) state few) (at_id later root) live,
+        tt,
+      );
+      rises = (tt, tt);
+      follows = (refl, refl);
+    }
 
     by_way : (more : Bool) → AllGo stamp later (written stamp later (cond more [] (count_acts root state new)))
-    by_way true = tt
+    by_way true = go_none stamp later
     by_way false = by_same (nat_eq state.failures new.failures)
 
 -- behind acts of its statement that go
@@ -258,7 +262,8 @@ works_ends s m root task ending reply acts reached r waits go rows =
 
 works_fails : (s : Stored) (m : Machine) (root task : ℕ) (why : Refusal) → IsReached s m → (r : IsTaskAt s.objects root)
     → IsTrue (waits_in r.task.run task) → Works s m (fails_by m root r.task task why)
-works_fails s m root task why reached r waits = works_ends s m root task Failed _ [] reached r waits tt tt
+works_fails s m root task why reached r waits =
+    works_ends s m root task Failed _ [] reached r waits (go_none m.state.last s.objects) tt
 
 -- its statement as a transaction of its own, by what it comes to
 works_carried : (s : Stored) (m : Machine) (root task : ℕ) (c : Changed) → IsReached s m → (r : IsTaskAt s.objects root)
@@ -273,7 +278,8 @@ works_carried s m root task (Gives id streams change e) reached r waits fits =
 
     by_acts : (reply : Reply) (found : Option (List Act)) → CommitStands s m.state.last (start_of t) found
         → Works s m (ends_as m root r.task task Succeeded reply (unwrap_or found []))
-    by_acts reply None stands = works_ends s m root task Succeeded reply [] reached r waits tt tt
+    by_acts reply None stands =
+        works_ends s m root task Succeeded reply [] reached r waits (go_none m.state.last s.objects) tt
     by_acts reply (Some acts) stands =
         works_ends s m root task Succeeded reply acts reached r waits
         (acts_go m.state.last (start_of t) 0 s.objects acts stands.0 stands.1 reached.firm)
@@ -291,7 +297,7 @@ works_runs : (s : Stored) (m : Machine) (root task : ℕ) (body : Dml) (v : Verd
     → Works s m (runs_by m root r.task task body v)
 works_runs s m root task body (ticks.Fails why) reached r waits tokens = works_fails s m root task why reached r waits
 works_runs s m root task body HoldsNot reached r waits tokens =
-    works_ends s m root task Skipped _ [] reached r waits tt tt
+    works_ends s m root task Skipped _ [] reached r waits (go_none m.state.last s.objects) tt
 works_runs s m root task body Holds reached r waits tokens =
     works_carried s m root task (bound_changed m 0 (body_bound m body)) reached r waits
     (change_fits s m 0 reached body tokens.1)

@@ -4,8 +4,6 @@
 --     initialized_is, refreshed_is, alters_is, scheduled_is     of CREATE and ALTER DYNAMIC TABLE, and of a table that is due
 use Rattle.std.proofs.Common.{ℕ, Bool, true, false, cond, List, [], ◌∷◌, Option, Some, None}
 use Rattle.std.specs.List.{AllByRecursion}
-use Rattle.wh_ast.specs.declared.statement.Statement.TheVariants as st
-use Rattle.wh_ddl_naming.specs.Statements as ddl
 use Rattle.wh_reply.specs.Reply.{Refusal, Reply}
 use Rattle.wh_state.specs.Objects.{dynamic_at}
 use Rattle.wh_state.specs.Dynamic.{IsQuerySpelled, DynamicQuery, DynamicState, Dynamic}
@@ -14,9 +12,7 @@ use Rattle.wh_state.specs.Act.{BeginsRun, EndsTask, MakesDynamic, PutsDynamic, R
 use Rattle.wh_state.proofs.AllLaws.{all_map}
 use Rattle.wh_state.proofs.SpelledLaws.{IsUnderstood}
 use Rattle.wh_machine.specs.Sessions.{Sessions}
-use Rattle.wh_machine.specs.Changes as changes
 use Rattle.wh_machine.specs.Outcome.{Machine, Outcome, Refuses, Does, acts_in}
-use Rattle.wh_machine.specs.Ticks.{Fails}
 use Rattle.wh_ast.specs.declared.statement.Initialize.{Initialize}
 use Rattle.wh_ast.specs.declared.statement.Initialize.TheVariants as starts
 use Rattle.wh_ddl_naming.specs.DynamicTables.{NewDynamicTable}
@@ -45,7 +41,7 @@ refuses = record { are = tt }
 -- ---- dynamic tables
 
 refresh_is : (act : Act) → IsOfRefresh act → IsUnderstood act
-refresh_is (RefreshesRows id moment e) is = tt
+refresh_is (RefreshesRows id moment e c) is = tt
 refresh_is (PutsDynamic id state) is = tt
 refresh_is (MakesTable name columns retention) is = absurd is
 refresh_is (DropsObject id) is = absurd is

@@ -50,10 +50,8 @@ use Rattle.wh_machine.specs.Ticks.{end_acts}
 use Rattle.wh_machine.specs.Ticks.{ends_as, carried_in, runs_by, runs_task, run_task, starts_run, does_action}
 use Rattle.wh_machine.specs.Ticks.{action_at}
 use Rattle.wh_machine.specs.Ticks.{refreshes, ticked}
-use Rattle.wh_ast.specs.declared.statement.Initialize.TheVariants as starts
 use Rattle.wh_moment.specs.Upstream.{dynamics_of}
 use Rattle.wh_moment.specs.Moment.{due_table}
-use Rattle.wh_machine.specs.Refresh as refresh
 use Rattle.wh_machine.specs.Dynamics.{asked_refresh, query_of}
 use Rattle.wh_machine.specs.Dynamics.{create_dynamic, resume_dynamic, suspend_dynamic, refresh_dynamic, set_lag}
 use Rattle.wh_machine.specs.Dynamics.{drop_dynamic}

@@ -15,6 +15,7 @@ use Rattle.wh_state.specs.State.{State, Object}
 use Rattle.wh_state.specs.Act.{Act}
 use Rattle.wh_state.specs.Stored.{StoredObject, Stored, object_meant, meant}
 use Rattle.wh_state.specs.Commit.{CreatesTask, SetsTask, StartsRun, FinishesTask, CreatesDynamic, SetsDynamic}
+use Rattle.wh_state.specs.Commit.{SetsGroups}
 use Rattle.wh_state.specs.Commit.{Change, CreatesTable, Drops, PushesVersion, CreatesStream, SetsOffset, all_changed}
 use Rattle.wh_state.specs.Written.{written, commit_for, kept_after}
 use Rattle.wh_state.specs.Sound.{IsSoundObject}
@@ -188,6 +189,7 @@ only_spares id other apart (StartsRun root tasks) only = tt
 only_spares id other apart (FinishesTask root task ending) only = tt
 only_spares id other apart (CreatesDynamic c) only = tt
 only_spares id other apart (SetsDynamic target state) only = tt
+only_spares id other apart (SetsGroups target c) only = tt
 only_spares id other apart (Drops target) only = λ same. apart (same ∙ only)
 
 pub free_stand : (stamp : ℕ) (objects : List StoredObject) (cs : List Change) (id : ℕ) →

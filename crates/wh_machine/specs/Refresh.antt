@@ -1,10 +1,11 @@
 -- Refreshes: dynamic tables brought to a moment.
---     Brought            what is done to one table: how it is brought to the moment, and its edits
+--     Brought            what is done to one table: how it is brought to the moment, its edits, and what becomes of its
+--                        groups, where it is kept
 --     brought_one, brought_all     of one table, and of several by rising ids; None where an evaluation is undefined
 --     Refreshing, refresh          the refresh of a table to a moment: a refusal, or its lines and its acts
 use Rattle.std.specs.Prelude.{ℕ, ◌+◌, Bool, true, false, not, ◌&&◌, if◌then◌else◌, List, [], ◌∷◌, ◌++◌, length, map}
-use Rattle.std.specs.Prelude.{Option, Some, None, option_map, nat_eq, nat_lt, nat_le}
-use Rattle.std.specs.FinMap.{entries}
+use Rattle.std.specs.Prelude.{Option, Some, None, option_map, unwrap_or, nat_eq, nat_lt, nat_le}
+use Rattle.std.specs.FinMap.{empty, entries}
 use Rattle.std.specs.List.{flat_map, list_any}
 use Rattle.std.specs.Option.{option_map_or}
 use Rattle.wh_value.specs.Limit.{bound}
@@ -13,8 +14,10 @@ use Rattle.wh_reply.specs.Reply.{Refusal, OverLimit, SourceGone, NumberOutOfRang
 use Rattle.wh_reply.specs.Reply.{Incremental}
 use Rattle.wh_reply.specs.Reply.{Refreshed}
 use Rattle.wh_state.specs.State.{Object, Table, State, last_rows}
-use Rattle.wh_state.specs.Dynamic.{Dynamic, DynamicState, ids_read}
-use Rattle.wh_state.specs.Moments.{evaluated_at}
+use Rattle.wh_maintenance.specs.Standing.{Groups}
+use Rattle.wh_maintenance.specs.Entries.{entries_between}
+use Rattle.wh_state.specs.Dynamic.{Dynamic, DynamicState, Kept, GroupsChange, ids_read}
+use Rattle.wh_state.specs.Moments.{evaluated_at, groups_at}
 use Rattle.wh_state.specs.Edits.{Edits}
 use Rattle.wh_state.specs.Objects.{table_at, dynamic_at, name_at, is_live_at}
 use Rattle.wh_state.specs.Act.{Act, PutsDynamic, RefreshesRows, all_acted, table_partitions_made}
@@ -44,22 +47,37 @@ action_by d is_new = if nat_eq d.state.moment 0 then Full else (if is_new then b
 abbrev pub action_of : List Object → ℕ → Dynamic → RefreshAction
 action_of objects moment d = action_by d (has_new_data objects d.state.moment moment (ids_read d.query))
 
--- no edits where there is nothing new
+-- the groups that a table has so far; none where it stands for no moment
+abbrev pub groups_stood : Dynamic → Kept → Groups
+groups_stood d k = if nat_eq d.state.moment 0 then empty else k.groups
+
+-- to the groups of its query for the moment
+abbrev pub groups_change : List Object → ℕ → Dynamic → Kept → GroupsChange
+groups_change objects moment d k = record {
+  keys = k.keys;
+  calls = k.calls;
+  entries = entries_between (groups_stood d k) (unwrap_or (groups_at objects moment d) empty);
+}
+
+abbrev pub groups_brought : List Object → ℕ → Dynamic → Option GroupsChange
+groups_brought objects moment d = option_map (groups_change objects moment d) d.kept
+
+-- no edits, and no change of groups, where there is nothing new
 pub record Brought : Type 0 where
   pub id : ℕ
   pub action : RefreshAction
   pub edits : Option Edits
+  pub groups : Option GroupsChange
   pub state : DynamicState
 
-abbrev pub brought_as : ℕ → ℕ → DynamicState → RefreshAction → Option Edits → Brought
-brought_as id moment s action edits =
-    record { id = id; action = action; edits = edits; state = brought_to moment s }
+abbrev pub brought_as : ℕ → ℕ → DynamicState → RefreshAction → Option Edits → Option GroupsChange → Brought
+brought_as id moment s action edits groups =
+    record { id = id; action = action; edits = edits; groups = groups; state = brought_to moment s }
 
 abbrev pub brought_by : List Object → ℕ → ℕ → Dynamic → Table → RefreshAction → Option Brought
-brought_by objects moment id d t NoData = Some (brought_as id moment d.state NoData None)
-brought_by objects moment id d t action =
-    option_map (λ rows. brought_as id moment d.state action (Some (rebase (last_rows t) rows)))
-    (evaluated_at objects moment d)
+brought_by objects moment id d t NoData = Some (brought_as id moment d.state NoData None None)
+brought_by objects moment id d t action = option_map (λ rows. brought_as id moment d.state action
+    (Some (rebase (last_rows t) rows)) (groups_brought objects moment d)) (evaluated_at objects moment d)
 
 abbrev pub brought_with : List Object → ℕ → ℕ → Option Dynamic → Option Table → Option Brought
 brought_with objects moment id (Some d) (Some t) = brought_by objects moment id d t (action_of objects moment d)
@@ -68,12 +86,12 @@ brought_with objects moment id _ _ = None
 unfoldable pub brought_one : List Object → ℕ → ℕ → Option Brought
 brought_one objects moment id = brought_with objects moment id (dynamic_at objects id) (table_at objects id)
 
-abbrev pub version_acts : ℕ → ℕ → Option Edits → List Act
-version_acts id moment None = []
-version_acts id moment (Some e) = RefreshesRows id moment e ∷ []
+abbrev pub version_acts : ℕ → ℕ → Option Edits → Option GroupsChange → List Act
+version_acts id moment None groups = []
+version_acts id moment (Some e) groups = RefreshesRows id moment e groups ∷ []
 
 abbrev pub acts_of_one : ℕ → Brought → List Act
-acts_of_one moment b = version_acts b.id moment b.edits ++ PutsDynamic b.id b.state ∷ []
+acts_of_one moment b = version_acts b.id moment b.edits b.groups ++ PutsDynamic b.id b.state ∷ []
 
 -- ---- several, by rising ids: each over what those before it leave
 

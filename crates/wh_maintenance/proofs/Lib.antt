@@ -18,4 +18,9 @@ pub mod Undefined
 pub mod Bounds
 pub mod Kept
 pub mod Update
+pub mod GroupsOf
+pub mod EntryLaws
+pub mod Between
+pub mod KeptTable
+pub mod Nothing
 pub mod Known

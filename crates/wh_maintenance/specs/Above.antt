@@ -1,20 +1,26 @@
 -- What stands above the Group of a query.
---     is_one_group     one Group over a linear query, with any number of Filter and Project above
+--     Grouping, grouping     the Group of a query that is one Group over a linear query, with any number of Filter and
+--                            Project above; None where it is no such query
 --     group_of         that Group
 --     above            what the operators above it make of a change of the group rows
-use Rattle.std.specs.Prelude.{Bool, false, Option}
-use Rattle.wh_meaning.specs.Scalar.{of_one}
-use Rattle.wh_meaning.specs.Query.{Query, Scan, Filter, Project, Join, UnionAll, Group, kept_by, image_by}
+use Rattle.std.specs.Prelude.{List, Option, Some, None, if◌then◌else◌}
+use Rattle.wh_meaning.specs.Scalar.{Scalar, of_one}
+use Rattle.wh_meaning.specs.Query.{Query, Call, Scan, Filter, Project, Join, UnionAll, Group, kept_by, image_by}
 use Rattle.wh_maintenance.specs.Carried.{Change, carried_over}
 use Rattle.wh_maintenance.specs.Delta.{linear}
 
-unfoldable pub is_one_group : Query → Bool
-is_one_group (Scan source) = false
-is_one_group (Filter q condition) = is_one_group q
-is_one_group (Project q items) = is_one_group q
-is_one_group (Join left right on) = false
-is_one_group (UnionAll left right) = false
-is_one_group (Group q by calls) = linear q
+pub record Grouping : Type 0 where
+  pub below : Query
+  pub by : List Scalar
+  pub calls : List Call
+
+unfoldable pub grouping : Query → Option Grouping
+grouping (Scan source) = None
+grouping (Filter q condition) = grouping q
+grouping (Project q items) = grouping q
+grouping (Join left right on) = None
+grouping (UnionAll left right) = None
+grouping (Group q by calls) = if linear q then Some (record { below = q; by = by; calls = calls }) else None
 
 unfoldable pub group_of : Query → Query
 group_of (Scan source) = Scan source

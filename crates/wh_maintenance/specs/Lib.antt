@@ -4,3 +4,4 @@ pub mod Delta
 pub mod Parts
 pub mod Standing
 pub mod Above
+pub mod Entries

@@ -26,8 +26,9 @@ pub(crate) fn read_number(bytes: &[u8]) -> Result<(i64, &[u8]), ReadError>
     Ok((number, rest))
 }
 
+/// A value at the front, and the bytes behind it. A number has at most 18 digits.
 #[tactic(auto, unfolding(crate::specs::Decoding::value_at))]
-fn read_value(alloc: Global, bytes: &[u8]) -> Result<(Value, &[u8]), ReadError>
+pub fn read_value(alloc: Global, bytes: &[u8]) -> Result<(Value, &[u8]), ReadError>
     ensures { Gives (λ x. (value_of x.0, x.1.now)) result (value_at bytes.now) }
 {
     match bytes {

@@ -31,7 +31,8 @@ fn write_value(out: &mut Bytes, value: &Value) -> Result<(), AllocError>
     }
 }
 
-fn write_values(out: &mut Bytes, values: &[Value]) -> Result<(), AllocError>
+/// Adds the bytes of each value, in their order.
+pub fn write_values(out: &mut Bytes, values: &[Value]) -> Result<(), AllocError>
     ensures ok { OnOk result (out.new ≡ out.old ++ flat_map value_bytes (map value_of values.now)) }
     ensures kept { Keeps out.old out.new }
 {

@@ -20,7 +20,8 @@ mod writing;
 
 pub use contents::Contents;
 pub use cutting::cut;
-pub use decoding::spelling_fixes_partitions;
+pub use decoding::{read_value, spelling_fixes_partitions};
+pub use encoding::write_values;
 pub use fault::ReadError;
 pub use meta::{Bounds, PartId, PartMeta};
 pub use outline::Outline;

@@ -10,10 +10,10 @@ use Rattle.std.proofs.lemmas.Bool.{eqb-true}
 use Rattle.std.proofs.lemmas.Option.{same_Some}
 use Rattle.wh_frame.specs.Spelling.{text_bytes, list_bytes, partition_bytes}
 use Rattle.wh_state.specs.Task.{TaskState, Ending}
-use Rattle.wh_state.specs.Dynamic.{DynamicState}
+use Rattle.wh_state.specs.Dynamic.{DynamicState, GroupsChange}
 use Rattle.wh_state.specs.Commit.{TextChange, CreatesTable, Drops, PushesVersion, CreatesStream, SetsOffset}
 use Rattle.wh_state.specs.Commit.{CreatesTask, SetsTask, StartsRun, FinishesTask, CreatesDynamic, SetsDynamic}
-use Rattle.wh_state.specs.Commit.{TextCommit}
+use Rattle.wh_state.specs.Commit.{SetsGroups, TextCommit}
 use Rattle.wh_state.specs.Spelling.{column_bytes, table_bytes, version_bytes, stream_kind_byte}
 use Rattle.wh_state.specs.Spelling.{stream_bytes, offset_bytes, change_bytes, text_payload, NumbersRiseFrom}
 use Rattle.wh_state.specs.Spelling.{IsTableChange, IsVersionChange, IsStreamChange, IsChange, IsTextCommit}
@@ -28,6 +28,7 @@ use Rattle.wh_record.proofs.FieldLaws.{byte_taken, reads_record, four_grouped, s
 use Rattle.wh_record.proofs.FieldLaws.{reads_rising}
 use Rattle.wh_record.proofs.ColumnLaws.{reads_column}
 use Rattle.wh_record.proofs.DynamicLaws.{reads_dynamic, reads_dynamic_state}
+use Rattle.wh_record.proofs.GroupLaws.{reads_groups}
 use Rattle.wh_record.proofs.TaskLaws.{reads_task, reads_state, reads_run, reads_end}
 
 -- ---- new tables
@@ -153,7 +154,9 @@ module _ (tag : ℕ) (bytes : List ℕ) (fits : AreBytes bytes) (c : TextChange)
       (tagged_takes _ reads_dynamic CreatesDynamic 8 (λ d good. (refl, good))
       (tagged_takes _ reads_dynamic_state (λ p. SetsDynamic p.0 p.1) 9 (λ p good. (refl, good))
       (tagged_takes _ reads_version PushesVersion 10 (λ v good. (refl, good))
-      (tagged_takes None reads_offset (λ p. SetsOffset p.0 p.1) 11 (λ p good. (refl, good)) (λ none. absurd cc)))))))))))
+      (tagged_takes _ reads_offset (λ p. SetsOffset p.0 p.1) 11 (λ p good. (refl, good))
+      (tagged_takes None reads_groups (λ p. SetsGroups p.0 p.1) 12 (λ p good. (refl, good))
+      (λ none. absurd cc))))))))))))
 
 change_takes : (bytes : List ℕ) (c : TextChange) (rest : List ℕ) → AreBytes bytes → change_at bytes ≡ Some (c, rest)
     → (bytes ≡ change_bytes c ++ rest) × IsChange c
@@ -183,6 +186,8 @@ change_again (FinishesTask root task ending) rest good =
 change_again (CreatesDynamic c) rest good = ap (said CreatesDynamic) (reads_dynamic.again c rest good)
 change_again (SetsDynamic id state) rest good =
     ap (said (λ (p : ℕ × DynamicState). SetsDynamic p.0 p.1)) (reads_dynamic_state.again (id, state) rest good)
+change_again (SetsGroups id groups) rest good =
+    ap (said (λ (p : ℕ × GroupsChange). SetsGroups p.0 p.1)) (reads_groups.again (id, groups) rest good)
 
 pub reads_change : Reads change_bytes IsChange change_at
 reads_change = record { takes = change_takes; again = change_again }

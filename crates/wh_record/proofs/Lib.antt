@@ -2,6 +2,7 @@ pub mod WritingLaws
 pub mod ColumnLaws
 pub mod TaskLaws
 pub mod DynamicLaws
+pub mod GroupLaws
 pub mod CommitLaws
 pub mod FileLaws
 pub mod ShapeLemmas

@@ -11,7 +11,7 @@ use Rattle.wh_filed.specs.Filing.{IsSpelledIn, EndsBy}
 use Rattle.wh_filed.proofs.FilingLaws.{behind_front, first_of, size_of_all, spelled_from, ends_from}
 use Rattle.wh_state.specs.Commit.{VersionChange, Change, CreatesTable, Drops, PushesVersion, CreatesStream, SetsOffset}
 use Rattle.wh_state.specs.Commit.{CreatesTask, SetsTask, StartsRun, FinishesTask, CreatesDynamic, SetsDynamic, Commit}
-use Rattle.wh_state.specs.Commit.{change_as_text}
+use Rattle.wh_state.specs.Commit.{SetsGroups, change_as_text}
 use Rattle.wh_state.specs.Spelling.{change_bytes, version_bytes, text_payload, payload_of, IsChange}
 use Rattle.wh_record.specs.Places.{head_size, change_size, filed_in_change, filed_in_changes}
 use Rattle.wh_record.specs.Laws.{AllSpelled, AllWithin}
@@ -79,6 +79,7 @@ change_spelled at bytes rest (StartsRun root tasks) good is = tt
 change_spelled at bytes rest (FinishesTask root task ending) good is = tt
 change_spelled at bytes rest (CreatesDynamic c) good is = tt
 change_spelled at bytes rest (SetsDynamic id state) good is = tt
+change_spelled at bytes rest (SetsGroups id groups) good is = tt
 
 changes_spelled : (at : ℕ) (bytes rest : List ℕ) (cs : List Change) → AllByRecursion IsChange (map change_as_text cs)
     → drop at bytes ≡ flat_map change_bytes (map change_as_text cs) ++ rest
@@ -105,6 +106,7 @@ change_within n at (StartsRun root tasks) within = tt
 change_within n at (FinishesTask root task ending) within = tt
 change_within n at (CreatesDynamic c) within = tt
 change_within n at (SetsDynamic id state) within = tt
+change_within n at (SetsGroups id groups) within = tt
 
 changes_within : (n at : ℕ) (cs : List Change)
     → at + length (flat_map change_bytes (map change_as_text cs)) ≤ n

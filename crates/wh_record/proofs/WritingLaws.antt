@@ -1,13 +1,15 @@
 -- Pieces that are written one after the other.
 use Rattle.std.proofs.Common.{◌≡◌, ℕ, List, [], ◌∷◌, ◌++◌, map, sym, ◌∙◌, ap, append_assoc}
 use Rattle.std.proofs.lemmas.Simd.{map-map}
-use Rattle.std.specs.Int.{w32, w64, to_be_bytes}
+use Rattle.std.specs.Int.{w32, w64, to_be_bytes, cast_unsigned}
+use Rattle.wh_meaning.specs.Query.{Total}
 use Rattle.wh_frame.specs.Spelling.{text_bytes, list_bytes}
 use Rattle.wh_state.specs.Commit.{TextCommit, InTexts, DynamicChangeIn, change_as_text}
 use Rattle.wh_state.specs.Spelling.{text_payload, change_bytes, column_bytes, offset_bytes, truth_byte, state_bytes}
 use Rattle.wh_state.specs.Spelling.{source_bytes, mode_byte, dynamic_bytes, dynamic_state_bytes}
+use Rattle.wh_state.specs.Spelling.{total_bytes, entry_bytes, groups_bytes}
 use Rattle.wh_state.specs.Task.{TaskState}
-use Rattle.wh_state.specs.Dynamic.{DynamicState}
+use Rattle.wh_state.specs.Dynamic.{DynamicState, GroupsChange}
 use Rattle.wh_record.specs.View.{UnderstoodChange, change_of, written_of}
 
 pub four_written : (a b c d before one two three after : List ℕ)
@@ -68,6 +70,23 @@ dynamic_state_written id s before one two three four five after p q r t u v =
     let whole : after ≡ (((((before ++ to_be_bytes w32 id) ++ to_be_bytes w32 s.lag) ++ truth_byte s.is_suspended ∷ [])
     ++ to_be_bytes w32 s.failures) ++ to_be_bytes w64 s.tried) ++ to_be_bytes w64 s.moment = cc in
     whole ∙ simp append_assoc
+
+-- the sum and the count are the total
+pub total_written : (t : Total) (before one after : List ℕ) → one ≡ before ++ to_be_bytes w64 (cast_unsigned w64 t.sum)
+    → after ≡ one ++ to_be_bytes w64 t.values
+    → after ≡ before ++ total_bytes t
+total_written t before one after p q =
+    two_written (to_be_bytes w64 (cast_unsigned w64 t.sum)) (to_be_bytes w64 t.values) before one after p q
+
+-- the id, what the Group has, and the entries are the change
+pub groups_written : (id : ℕ) (c : GroupsChange) (before one two three after : List ℕ)
+    → one ≡ before ++ to_be_bytes w32 id → two ≡ one ++ to_be_bytes w32 c.keys → three ≡ two ++ to_be_bytes w32 c.calls
+    → after ≡ three ++ list_bytes (entry_bytes c.calls) c.entries
+    → after ≡ before ++ groups_bytes id c
+unfolding groups_bytes
+groups_written id c before one two three after p q r s =
+    four_written (to_be_bytes w32 id) (to_be_bytes w32 c.keys) (to_be_bytes w32 c.calls)
+    (list_bytes (entry_bytes c.calls) c.entries) before one two three after p q r s
 
 -- the stamp and the changes are the commit
 pub commit_written : (c : TextCommit) (before one after : List ℕ) → one ≡ before ++ to_be_bytes w64 c.stamp

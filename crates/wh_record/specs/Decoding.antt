@@ -1,16 +1,22 @@
 -- Reading what bytes give of commits.
 use Rattle.std.specs.Prelude.{ℕ, zero, suc, ◌+◌, Bool, true, false, ◌&&◌, List, [], ◌∷◌, length, Option, Some, None}
-use Rattle.std.specs.Prelude.{nat_le, ◌==◌, if◌then◌else◌}
-use Rattle.std.specs.Int.{w32, w64}
+use Rattle.std.specs.Prelude.{nat_le, nat_lt, nat_eq, pos, ◌==◌, ◌||◌, if◌then◌else◌}
+use Rattle.std.specs.Int.{w32, w64, cast_signed}
+use Rattle.std.specs.Ordering.{is_lt, eq_by_cmp, int_cmp}
+use Rattle.wh_value.specs.Value.{Row, row_cmp}
+use Rattle.wh_meaning.specs.Query.{Total}
+use Rattle.wh_maintenance.specs.Standing.{Standing}
+use Rattle.wh_maintenance.specs.Entries.{GroupEntry}
 use Rattle.wh_value.specs.Column.{Column, ColumnType, NumberType, VarcharType, BooleanType}
 use Rattle.wh_state.specs.Task.{TaskTexts, TaskState, Ending, Succeeded, Failed, Skipped}
 use Rattle.wh_state.specs.Commit.{TableChange, VersionChange, StreamChange, TextChange, CreatesTable, Drops}
 use Rattle.wh_state.specs.Commit.{PushesVersion, CreatesStream, SetsOffset, TextCommit, InTexts, TaskChangeIn}
 use Rattle.wh_state.specs.Commit.{CreatesTask, SetsTask, StartsRun, FinishesTask, CreatesDynamic, SetsDynamic}
-use Rattle.wh_state.specs.Commit.{DynamicChangeIn}
-use Rattle.wh_state.specs.Dynamic.{Source, DynamicTexts, DynamicState}
-use Rattle.wh_part.specs.Reading.{Reader, ◌>>=◌, then_at, where_at, as_at, list_at, byte_at, number_at, text_at}
-use Rattle.wh_part.specs.Decoding.{partition_at}
+use Rattle.wh_state.specs.Commit.{SetsGroups, DynamicChangeIn}
+use Rattle.wh_state.specs.Dynamic.{Source, DynamicTexts, DynamicState, GroupsChange}
+use Rattle.wh_part.specs.Reading.{Reader, ◌>>=◌, then_at, where_at, as_at, items_at, list_at, byte_at, number_at}
+use Rattle.wh_part.specs.Reading.{text_at}
+use Rattle.wh_part.specs.Decoding.{value_at, partition_at}
 
 unfoldable pub type_at : Reader ColumnType
 type_at [] = None
@@ -161,6 +167,59 @@ dynamic_state_at bytes =
     (then_at (number_at w32) (λ _. then_at (number_at w32) (λ _. then_at truth_at (λ _. then_at (number_at w32)
     (λ _. then_at (number_at w64) (λ _. number_at w64)))))) bytes
 
+-- ---- groups of dynamic tables
+
+unfoldable pub total_at : Reader Total
+total_at bytes =
+    as_at (λ p. record { sum = cast_signed w64 p.0; values = p.1 }) (then_at (number_at w64) (λ _. number_at w64)) bytes
+
+abbrev pub is_nothing : Total → Bool
+is_nothing t = eq_by_cmp int_cmp t.sum (pos 0) && nat_eq t.values 0
+
+abbrev pub are_nothing : List Total → Bool
+are_nothing [] = true
+are_nothing (t ∷ ts) = is_nothing t && are_nothing ts
+
+-- no rows have nothing added up
+abbrev pub may_stand : ℕ → List Total → Bool
+may_stand rows totals = nat_lt 0 rows || are_nothing totals
+
+-- none where there are no rows
+abbrev pub group_of : ℕ → List Total → Option Standing
+group_of rows totals = if nat_lt 0 rows then Some (record { rows = rows; totals = totals }) else None
+
+-- with a total for each call
+unfoldable pub standing_at : ℕ → Reader (Option Standing)
+standing_at calls bytes =
+    as_at (λ p. group_of p.0 p.1)
+    (where_at (λ p. may_stand p.0 p.1) (then_at (number_at w64) (λ _. items_at total_at calls))) bytes
+
+abbrev pub key_at : ℕ → Reader Row
+key_at keys = items_at value_at keys
+
+unfoldable pub entry_at : ℕ → ℕ → Reader GroupEntry
+entry_at keys calls bytes =
+    as_at (λ p. record { key = p.0; group = p.1 }) (then_at (key_at keys) (λ _. standing_at calls)) bytes
+
+-- whether a key is below the next one, if there is one
+abbrev pub goes_before : Row → List GroupEntry → Bool
+goes_before key [] = true
+goes_before key (e ∷ es) = is_lt (row_cmp key e.key)
+
+abbrev pub keys_rise : List GroupEntry → Bool
+keys_rise [] = true
+keys_rise (e ∷ es) = goes_before e.key es && keys_rise es
+
+unfoldable pub entries_at : ℕ → ℕ → Reader (List GroupEntry)
+entries_at keys calls bytes = where_at keys_rise (list_at (number_at w32) (entry_at keys calls)) bytes
+
+-- the id of a dynamic table, and what is set of its groups
+unfoldable pub groups_at : Reader (ℕ × GroupsChange)
+groups_at bytes =
+    as_at (λ p. (p.0, record { keys = p.1.0; calls = p.1.1.0; entries = p.1.1.1 }))
+    (then_at (number_at w32) (λ _. then_at (number_at w32) (λ keys. then_at (number_at w32) (λ calls.
+    entries_at keys calls)))) bytes
+
 -- ---- commits
 
 -- what a tag announces
@@ -177,6 +236,7 @@ change_behind tag bytes =
     else if tag == 9 then as_at (λ p. SetsDynamic p.0 p.1) dynamic_state_at bytes
     else if tag == 10 then as_at PushesVersion version_at bytes
     else if tag == 11 then as_at (λ p. SetsOffset p.0 p.1) offset_at bytes
+    else if tag == 12 then as_at (λ p. SetsGroups p.0 p.1) groups_at bytes
     else None
 
 unfoldable pub change_at : Reader TextChange

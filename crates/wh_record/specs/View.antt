@@ -21,14 +21,14 @@ use Rattle.wh_record.specs.declared.commit.ChangeIn.{ChangeIn}
 use Rattle.wh_record.specs.declared.commit.ChangeIn.TheVariants.{CreatesTable, Drops, PushesVersion}
 use Rattle.wh_record.specs.declared.commit.ChangeIn.TheVariants.{CreatesStream, SetsOffset}
 use Rattle.wh_record.specs.declared.commit.ChangeIn.TheVariants.{CreatesTask, SetsTask, StartsRun, FinishesTask}
-use Rattle.wh_record.specs.declared.commit.ChangeIn.TheVariants.{CreatesDynamic, SetsDynamic}
+use Rattle.wh_record.specs.declared.commit.ChangeIn.TheVariants.{CreatesDynamic, SetsDynamic, SetsGroups}
 use Rattle.wh_record.specs.declared.commit.CommitIn.{CommitIn}
 use Rattle.wh_state.specs.Task as state
 use Rattle.wh_state.specs.Dynamic as dynamics
 use Rattle.wh_task.specs.declared.task.TaskBody.{TaskBody}
 use Rattle.wh_task.specs.View.{state_of, ending_of, body_of}
 use Rattle.wh_dynamic.specs.declared.query.DynamicQuery.{DynamicQuery}
-use Rattle.wh_dynamic.specs.View.{source_of, query_of}
+use Rattle.wh_dynamic.specs.View.{source_of, query_of, groups_change_of}
 use Rattle.wh_dynamic.specs.View as dynamic_tables
 
 abbrev pub table_change_of : TableChange → machine.TableChange
@@ -92,6 +92,7 @@ change_with version_by runs_of query_by (StartsRun root tasks) = machine.StartsR
 change_with version_by runs_of query_by (FinishesTask root task ending) = machine.FinishesTask root task (ending_of ending)
 change_with version_by runs_of query_by (CreatesDynamic c) = machine.CreatesDynamic (dynamic_in query_by c)
 change_with version_by runs_of query_by (SetsDynamic id state) = machine.SetsDynamic id (dynamic_tables.state_of state)
+change_with version_by runs_of query_by (SetsGroups id groups) = machine.SetsGroups id (groups_change_of groups)
 
 abbrev pub change_in : {R Q : Type 0} {form : machine.Form} → (R → machine.TaskPart form)
     → (Q → machine.DynamicPart form) → ChangeIn R Q Partition

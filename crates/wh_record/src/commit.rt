@@ -1,4 +1,4 @@
-use wh_dynamic::{DynamicQuery, DynamicState, NamedSource};
+use wh_dynamic::{DynamicQuery, DynamicState, GroupsChange, NamedSource};
 use wh_part::{Outline, Partition};
 use wh_task::{Ending, TaskBody, TaskState};
 use wh_value::{Column, Text};
@@ -35,6 +35,9 @@ pub(crate) const VERSION_TAG: u8 = 10;
 
 /// The byte before a new offset of a stream.
 pub(crate) const OFFSET_TAG: u8 = 11;
+
+/// The byte before what a version does to groups.
+pub(crate) const GROUPS_TAG: u8 = 12;
 
 /// A new table; `retention` is in days.
 #[derive(Debug, Drop)]
@@ -141,6 +144,11 @@ pub enum ChangeIn<R, Q, P> {
     SetsDynamic {
         id: u32,
         state: DynamicState,
+    },
+    /// Groups of the dynamic table of that id are set.
+    SetsGroups {
+        id: u32,
+        groups: GroupsChange,
     },
 }
 

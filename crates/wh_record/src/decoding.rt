@@ -11,11 +11,12 @@ ghost use Rattle.wh_record.specs.View.{table_change_of, version_change_of, strea
 ghost use Rattle.wh_record.specs.View.{text_change_of, text_commit_of};
 
 use crate::commit::{
-    DROP_TAG, DYNAMIC_STATE_TAG, DYNAMIC_TAG, END_TAG, OFFSET_TAG, RUN_TAG, STATE_TAG, STREAM_TAG,
-    TABLE_TAG, TASK_TAG, VERSION_TAG,
+    DROP_TAG, DYNAMIC_STATE_TAG, DYNAMIC_TAG, END_TAG, GROUPS_TAG, OFFSET_TAG, RUN_TAG, STATE_TAG,
+    STREAM_TAG, TABLE_TAG, TASK_TAG, VERSION_TAG,
 };
 use crate::dynamic_decoding::{read_dynamic, read_dynamic_state};
 use crate::format::rise;
+use crate::groups_decoding::read_groups;
 use crate::task_decoding::{read_end, read_run, read_state, read_task};
 use crate::{OutlinedVersion, StreamChange, TableChange, TextChange, TextCommit};
 use std::alloc::{AllocError, Global};
@@ -255,6 +256,10 @@ fn read_change_behind(
     if tag == OFFSET_TAG {
         let ((id, offset), rest) = read_offset(bytes)?;
         return Ok((TextChange::SetsOffset { id, offset }, rest));
+    }
+    if tag == GROUPS_TAG {
+        let ((id, groups), rest) = read_groups(alloc, bytes)?;
+        return Ok((TextChange::SetsGroups { id, groups }, rest));
     }
     Err(ReadError::Malformed)
 }

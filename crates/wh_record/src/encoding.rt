@@ -15,11 +15,12 @@ ghost use Rattle.wh_record.specs.View.{written_of, written_with, commit_of};
 ghost use Rattle.wh_record.specs.declared.commit.VersionChangeIn.{VersionChangeIn};
 
 use crate::commit::{
-    DROP_TAG, DYNAMIC_STATE_TAG, DYNAMIC_TAG, END_TAG, OFFSET_TAG, RUN_TAG, STATE_TAG, STREAM_TAG,
-    TABLE_TAG, TASK_TAG, VERSION_TAG,
+    DROP_TAG, DYNAMIC_STATE_TAG, DYNAMIC_TAG, END_TAG, GROUPS_TAG, OFFSET_TAG, RUN_TAG, STATE_TAG,
+    STREAM_TAG, TABLE_TAG, TASK_TAG, VERSION_TAG,
 };
 use crate::dynamic_encoding::{write_dynamic, write_dynamic_state};
 use crate::format::{has_rows, rise};
+use crate::groups_encoding::write_groups;
 use crate::task_encoding::{write_end, write_run, write_state, write_task};
 use crate::{Change, ChangeIn, Commit, StreamChange, TableChange, VersionChange};
 use std::alloc::{AllocError, Global};
@@ -255,6 +256,10 @@ pub(crate) fn write_plain<P>(
             out.push(DYNAMIC_STATE_TAG)?;
             write_dynamic_state(out, *id, *state)
         }
+        ChangeIn::SetsGroups { id, groups } => {
+            out.push(GROUPS_TAG)?;
+            write_groups(out, *id, groups)
+        }
     }
 }
 
@@ -311,9 +316,10 @@ impl Commit {
     ghost use Rattle.wh_record.specs.View.{commit_of};
 
     /// The record of the commit. `AllocError` is also the answer where a list's count doesn't fit
-    /// four bytes, a row has another number of values than the width, a number has more than 18
-    /// digits, or the numbers of removed partitions or the ids of a run's tasks don't rise. No run
-    /// makes such a commit.
+    /// four bytes, a row or a key has another number of values than is said, a number has more than
+    /// 18 digits, the numbers of removed partitions, the ids of a run's tasks or the keys of groups
+    /// don't rise, or a group has no rows or another number of totals than calls. No run makes such
+    /// a commit.
     pub fn encode(&self, alloc: Global) -> Result<Framed, AllocError>
         ensures payload { IfOk result (λ framed. framed ≡ payload_of (commit_of self.now)) }
         ensures written { OnOk result (IsTextCommit (as_text (commit_of self.now))) }

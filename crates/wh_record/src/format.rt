@@ -1,6 +1,6 @@
-ghost use Rattle.std.specs.Prelude.{◌≡◌, ◌↔◌, map, nat_le, IsTrue};
+ghost use Rattle.std.specs.Prelude.{◌≡◌, ◌↔◌, length, map, nat_le, IsTrue};
 ghost use Rattle.std.specs.List.{AllByRecursion};
-ghost use Rattle.wh_value.specs.Value.{IsText, IsValue};
+ghost use Rattle.wh_value.specs.Value.{IsText, IsValue, IsRow};
 ghost use Rattle.wh_value.specs.View.{value_of};
 ghost use Rattle.wh_part.specs.Decoding.{least_after};
 ghost use Rattle.wh_part.specs.View.{numbered_of};
@@ -8,7 +8,7 @@ ghost use Rattle.wh_record.specs.Decoding.{numbers_rise};
 ghost use Rattle.wh_record.specs.View.{HasRow, HasRows};
 
 use wh_part::{NumberedRow, Partition};
-use wh_value::{Text, Value};
+use wh_value::{Row, Text, Value};
 
 /// The least number of more than 18 digits.
 const NUMBER_LIMIT: u64 = 1_000_000_000_000_000_000;
@@ -81,10 +81,17 @@ fn are_values(values: &[Value]) -> bool
     true
 }
 
+/// Whether a row has that number of values, all within the format.
+pub(crate) fn is_wide(width: u32, row: &Row) -> bool
+    ensures { IsTrue result ↔ ((length row.now ≡ width) × IsRow row.now) }
+{
+    row.len() == width as usize && are_values(row.values())
+}
+
 fn has_row(width: u32, numbered: &NumberedRow) -> bool
     ensures { IsTrue result ↔ HasRow width (numbered_of numbered.now) }
 {
-    numbered.row.len() == width as usize && are_values(numbered.row.values())
+    is_wide(width, &numbered.row)
 }
 
 fn are_rows(width: u32, rows: &[NumberedRow]) -> bool

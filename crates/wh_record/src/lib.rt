@@ -7,6 +7,8 @@ mod dynamic_decoding;
 mod dynamic_encoding;
 mod encoding;
 mod format;
+mod groups_decoding;
+mod groups_encoding;
 mod outlining;
 mod size;
 mod task_decoding;

@@ -66,6 +66,7 @@ fn outlined_change(alloc: Global, change: Change) -> Result<OutlinedChange, Allo
         }
         ChangeIn::CreatesDynamic(table) => Ok(ChangeIn::CreatesDynamic(table)),
         ChangeIn::SetsDynamic { id, state } => Ok(ChangeIn::SetsDynamic { id, state }),
+        ChangeIn::SetsGroups { id, groups } => Ok(ChangeIn::SetsGroups { id, groups }),
     }
 }
 

@@ -7,4 +7,5 @@ mod GoingLaws
 mod MovingLaws
 mod GivenLaws
 mod HeldLaws
+mod GroupLaws
 pub mod StandLaws

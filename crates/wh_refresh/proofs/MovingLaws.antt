@@ -3,7 +3,7 @@
 --     turn_alone           so of a table between two moments
 --     turn_none            nothing came and nothing went where there is no table
 --     turns_pushed         sources of ids, with one more
---     turns_at             by place, the sources' rows turn
+--     turns_given          by place, the sources' rows turn
 use Rattle.std.proofs.Common.{◌≡◌, ℕ, zero, suc, ◌+◌, ◌<◌, ◌⊎◌, inl, inr, List, [], ◌∷◌, ◌++◌, map, length, take, get_or}
 use Rattle.std.proofs.Common.{Option, Some, None, refl, sym, ap, subst, ◌∙◌}
 use Rattle.std.proofs.lemmas.List.{map-append, take_more}
@@ -12,7 +12,7 @@ use Rattle.std.specs.Option.{option_map_or}
 use Rattle.std.specs.FinMap.{values}
 use Rattle.wh_frame.specs.Partition.{Partition}
 use Rattle.wh_meaning.specs.Bag.{Bag, no_rows, bag_of, plus}
-use Rattle.wh_meaning.specs.Query.{source_in}
+use Rattle.wh_meaning.specs.Query.{Instance, source_in}
 use Rattle.wh_meaning.proofs.BagLaws.{bag_of-append, plus-assoc, plus-comm, no_rows-plus, plus-no_rows}
 use Rattle.wh_exec.specs.Source.{parts_bag}
 use Rattle.wh_maintenance.specs.Turn.{IsTurn}
@@ -150,7 +150,7 @@ module _ (objects : List Object) (from to : ℕ) where
       (sym (ap bags_held more_went ∙ map-append bag_held went (w ∷ [])))
       (turns_more ids i (bags_held came) (bags_held went) (bag_held c) (bag_held w) within turns turn))
 
-  pub turns_at : (ids : List ℕ) (came went : List Bag) → AllTurn objects from to ids came went → AreTurns (record {
+  turns_at : (ids : List ℕ) (came went : List Bag) → AllTurn objects from to ids came went → AreTurns (record {
     old = instance_at objects from ids;
     comes = came;
     goes = went;
@@ -162,3 +162,17 @@ module _ (objects : List Object) (from to : ℕ) where
   turns_at [] (c ∷ came) went turns place = absurd turns
   turns_at (id ∷ ids) [] went turns place = absurd turns
   turns_at (id ∷ ids) (c ∷ came) [] turns place = absurd turns
+
+  pub turns_given : (ids : List ℕ) (came went : Instance) (all_came all_went : List SourceHeld)
+      → came ≡ bags_held all_came → went ≡ bags_held all_went
+      → AllTurn objects from to ids (bags_held all_came) (bags_held all_went) → AreTurns (record {
+        old = instance_at objects from ids;
+        comes = came;
+        goes = went;
+      }) (instance_at objects to ids)
+  turns_given ids came went all_came all_went come go turns =
+      let now : Instance = instance_at objects to ids in
+      let old : Instance = instance_at objects from ids in
+      subst (λ (e : Instance). AreTurns (record { old = old; comes = e; goes = went }) now) (sym come)
+      (subst (λ (e : Instance). AreTurns (record { old = old; comes = bags_held all_came; goes = e }) now) (sym go)
+      (turns_at ids (bags_held all_came) (bags_held all_went) turns))

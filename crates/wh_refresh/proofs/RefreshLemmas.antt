@@ -31,8 +31,8 @@ use Rattle.wh_state.specs.Bound.{query_bound}
 use Rattle.wh_state.specs.Moments.{bag_at, instance_at, evaluated_at}
 use Rattle.wh_state.specs.Edits.{Edits}
 use Rattle.wh_state.specs.Act.{PutsDynamic, edited_table, next_contents}
-use Rattle.wh_state.specs.Commit.{Change, all_changed}
-use Rattle.wh_state.specs.Written.{written}
+use Rattle.wh_state.specs.Commit.{Change, SetsDynamic, all_changed}
+use Rattle.wh_state.specs.Written.{written, version_written_to, groups_written}
 use Rattle.wh_state.proofs.IdLaws.{last_more, map_at}
 use Rattle.wh_state.proofs.EndLaws.{written_append}
 use Rattle.wh_state.proofs.BroughtGoes.{one_leaves}
@@ -324,21 +324,22 @@ one_is : (stamp moment : ℕ) (b : machine.Brought) (now stored : List StoredObj
 one_is stamp moment b now stored same = by_edits b.edits
   where
     by_edits : (edits : Option Edits)
-        → written stamp now (version_acts b.id moment edits ++ PutsDynamic b.id b.state ∷ [])
+        → written stamp now (version_acts b.id moment edits b.groups ++ PutsDynamic b.id b.state ∷ [])
         ≡ one_written stored moment (record b { edits = edits })
     by_edits None = refl
-    by_edits (Some e) = rw same refl
+    by_edits (Some e) = ap (λ (found : Option StoredObject).
+        (version_written_to moment b.id e found ++ groups_written b.id b.groups) ++ SetsDynamic b.id b.state ∷ []) same
 
 leaves : (stamp moment : ℕ) (b : machine.Brought) (now : List StoredObject) (later : ℕ) → b.id < later
     → at_id (all_changed stamp now (written stamp now (acts_of_one moment b))) later ≡ at_id now later
 leaves stamp moment b now later h = by_edits b.edits
   where
     by_edits : (edits : Option Edits)
-        → at_id (all_changed stamp now (written stamp now (version_acts b.id moment edits
+        → at_id (all_changed stamp now (written stamp now (version_acts b.id moment edits b.groups
         ++ PutsDynamic b.id b.state ∷ [])))
         later ≡ at_id now later
-    by_edits None = one_leaves stamp moment now b.id None b.state later h
-    by_edits (Some e) = one_leaves stamp moment now b.id (Some e) b.state later h
+    by_edits None = one_leaves stamp moment now b.id None b.groups b.state later h
+    by_edits (Some e) = one_leaves stamp moment now b.id (Some e) b.groups b.state later h
 
 pub all_written : (stamp moment least : ℕ) (bs : List machine.Brought) (now stored : List StoredObject)
     → AreAbove least bs → SameFrom least now stored

@@ -2,6 +2,7 @@ pub mod Walk
 pub mod Objects
 pub mod Sources
 pub mod Rebased
+pub mod Groups
 pub mod Going
 pub mod Brought
 pub mod Refreshing

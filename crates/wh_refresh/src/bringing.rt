@@ -12,13 +12,14 @@ ghost use Rattle.wh_table.specs.Table.{table_of, filed_of};
 ghost use Rattle.wh_machine.specs.Refresh as machine;
 ghost use Rattle.wh_machine.specs.Brought.{after_all, AreAbove, RiseAbove, sought};
 ghost use Rattle.wh_refresh.specs.Objects.{objects_in, stored_in, filed_at_objects};
-ghost use Rattle.wh_refresh.specs.Brought.{AreBrought, BringsOneOr, BringsOr, MakesRows};
-ghost use Rattle.wh_refresh.specs.Standing.{HasItsRows, AllStand};
+ghost use Rattle.wh_refresh.specs.Brought.{AreBrought, HoldsBehind, BringsOneOr, BringsOr};
+ghost use Rattle.wh_refresh.specs.Brought.{MakesRows};
+ghost use Rattle.wh_refresh.specs.Standing.{StandsBy, AllStand};
 
 use crate::brought::{Brought, NewRows};
 use crate::objects::{dynamic_at, table_at};
 use crate::rebase::Rebased;
-use crate::rows::rebased_by;
+use crate::rows::{Regrouped, rebased_by};
 use crate::sources::has_new_data;
 use std::alloc::Global;
 use wh_catalog::{StoredObject, StoredTable};
@@ -66,7 +67,8 @@ fn bring<F: Fetch>(
     requires { AllCovered (F.covers fetch.old) (filed_at_objects objects.now) }
     ensures brought { AllShownBy (F.contents fetch.old) (filed_at_objects objects.now)
         → AllStand (objects_in objects.now) → IfOk result
-        (λ found. (stamp : ℕ) (bs : List machine.Brought) → AreBrought (stored_in objects.now) before.now bs → AreAbove 0 bs → sought id bs ≡ None
+        (λ found. (stamp : ℕ) (bs : List machine.Brought)
+        → AreBrought (stored_in objects.now) before.now bs → AreAbove 0 bs → sought id bs ≡ None
         → BringsOneOr (stored_in objects.now) found
         (machine.brought_one (after_all stamp moment bs (objects_in objects.now)) moment id)) }
     ensures sound { AllShownBy (F.contents fetch.old) (filed_at_objects objects.now)
@@ -154,13 +156,11 @@ fn new_rows<F: Fetch>(
     requires own { AllCovered (F.covers fetch.old) (filed_of table.now) }
     ensures made { AllShownBy (F.contents fetch.old) (filed_at_objects objects.now)
         → AllShownBy (F.contents fetch.old) (filed_of table.now)
-        → (action ≡ Incremental → HasItsRows (objects_in objects.now) (dynamic_of dynamic.now)
-        (table_meant (table_of table.now)))
-        → IfOk result (λ found. (stamp : ℕ) (bs : List machine.Brought)
-        → AreBrought (stored_in objects.now) before.now bs → AreAbove 0 bs
-        → MakesRows found (table_of table.now)
-        (evaluated_at (after_all stamp moment bs (objects_in objects.now)) moment
-        (dynamic_of dynamic.now))) }
+        → StandsBy action (objects_in objects.now) (dynamic_of dynamic.now)
+        (table_meant (table_of table.now))
+        → IfOk result (λ found. HoldsBehind objects.now before.now moment (λ now.
+        MakesRows found (table_of table.now) (evaluated_at now moment (dynamic_of dynamic.now))
+        (machine.groups_brought now moment (dynamic_of dynamic.now)))) }
     ensures sound { AllShownBy (F.contents fetch.old) (filed_at_objects objects.now)
         → AllShownBy (F.contents fetch.old) (filed_of table.now)
         → F.damage fetch.new ≡ F.damage fetch.old }
@@ -171,13 +171,15 @@ fn new_rows<F: Fetch>(
     let found = rebased_by(
         alloc, objects, before, moment, dynamic, table, action, fetch,
     )?;
-    let Some(Rebased { edits, plus, minus }) = found else {
+    let Some(Regrouped { rebased, groups }) = found else {
         return Ok(None);
     };
+    let Rebased { edits, plus, minus } = rebased;
     let edited = table.edited(alloc, edits, fetch)?;
     Ok(Some(NewRows {
         edited,
         plus,
         minus,
+        groups,
     }))
 }

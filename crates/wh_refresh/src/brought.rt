@@ -4,7 +4,7 @@ ghost use Rattle.wh_machine.specs.Brought.{edits_sought};
 ghost use Rattle.wh_machine.specs.Refresh as machine;
 ghost use Rattle.wh_refresh.specs.Brought.{AreBrought, IsRowsOf};
 
-use wh_dynamic::DynamicState;
+use wh_dynamic::{DynamicState, GroupsChange};
 use wh_reply::RefreshAction;
 use wh_table::EditedTable;
 
@@ -18,19 +18,22 @@ pub(crate) struct Brought {
     pub state: DynamicState,
 }
 
-/// A version to come, and how many rows come and go with it.
+/// A version to come, how many rows come and go with it, and what it does to the table's groups,
+/// where they are kept.
 #[derive(Debug, Drop)]
 pub(crate) struct NewRows {
     pub edited: EditedTable,
     pub plus: u64,
     pub minus: u64,
+    pub groups: Option<GroupsChange>,
 }
 
 /// The version to come of the table of an id, if there is one.
 #[cycle(new_rows_of)]
 pub(crate) fn new_rows_of(all: &[Brought], id: u32) -> Option<&NewRows>
     ensures { (stored : List StoredObject) (bs : List machine.Brought)
-        → AreBrought stored all.now bs → IsRowsOf stored id (option_map (λ r. r.now) result) (edits_sought id bs) }
+        → AreBrought stored all.now bs
+        → IsRowsOf stored id (option_map (λ r. r.now) result) (edits_sought id bs) }
 {
     match all {
         [] => None,

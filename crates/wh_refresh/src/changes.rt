@@ -34,11 +34,12 @@ use std::alloc::{AllocError, Global};
 use wh_algebra::{Query, Tuple};
 use wh_bag::{Bag, Signed, apply};
 use wh_catalog::{StoredObject, StoredTable};
-use wh_delta::{delta, is_linear, linear_delta};
+use wh_delta::{delta, linear_delta};
 use wh_dynamic::Dynamic;
 use wh_exec::collected;
 use wh_fetch::{Fetch, FetchFault};
 use wh_filed::fetch_all;
+use wh_group::is_linear;
 use wh_part::{NumberedRow, Partition};
 use wh_table::by_rows;
 

@@ -7,6 +7,7 @@ mod brought;
 mod changes;
 mod evaluation;
 mod going;
+mod groups;
 mod limits;
 mod moving;
 mod objects;

@@ -11,27 +11,76 @@ ghost use Rattle.wh_table.specs.Table.{table_of, filed_of};
 ghost use Rattle.wh_machine.specs.Refresh as machine;
 ghost use Rattle.wh_machine.specs.Brought.{after_all, AreAbove};
 ghost use Rattle.wh_refresh.specs.Objects.{objects_in, stored_in, filed_at_objects};
-ghost use Rattle.wh_refresh.specs.Brought.{AreBrought};
-ghost use Rattle.wh_refresh.specs.Rebased.{IsRebased, RebasesTo};
-ghost use Rattle.wh_refresh.specs.Standing.{HasItsRows};
+ghost use Rattle.wh_refresh.specs.Brought.{AreBrought, HoldsBehind};
+ghost use Rattle.wh_refresh.specs.Rebased.{IsRebased, RebasesTo, RegroupsTo};
+ghost use Rattle.wh_refresh.specs.Standing.{HasItsRows, StandsBy};
 
 use crate::brought::Brought;
 use crate::changes::{change_of_rows, rebased_with};
 use crate::evaluation::evaluated;
+use crate::groups::rebased_by_groups;
 use crate::rebase::{Rebased, rebase};
 use crate::sources::{sources_held, sources_of};
 use std::alloc::Global;
 use wh_bag::Bag;
 use wh_catalog::{StoredObject, StoredTable};
-use wh_dynamic::Dynamic;
+use wh_dynamic::{Dynamic, GroupsChange};
 use wh_fetch::{Fetch, FetchFault};
 use wh_filed::fetch_all;
 use wh_reply::RefreshAction;
 use wh_table::by_rows;
 
+/// The edits of a table's rows, and what becomes of its groups, where they are kept.
+#[derive(Debug, Drop)]
+pub(crate) struct Regrouped {
+    pub rebased: Rebased,
+    pub groups: Option<GroupsChange>,
+}
+
 /// By its action; None where its query is undefined. One that is brought by a change has the rows
 /// of its query for the moment that it stands for.
 pub(crate) fn rebased_by<F: Fetch>(
+    alloc: Global,
+    objects: &[&StoredObject],
+    before: &[Brought],
+    moment: u64,
+    dynamic: &Dynamic,
+    table: &StoredTable,
+    action: RefreshAction,
+    fetch: &mut F,
+) -> Result<Option<Regrouped>, FetchFault>
+    requires objects { AllCovered (F.covers fetch.old) (filed_at_objects objects.now) }
+    requires own { AllCovered (F.covers fetch.old) (filed_of table.now) }
+    ensures rebased { AllShownBy (F.contents fetch.old) (filed_at_objects objects.now)
+        → AllShownBy (F.contents fetch.old) (filed_of table.now)
+        → StandsBy action (objects_in objects.now) (dynamic_of dynamic.now)
+        (table_meant (table_of table.now))
+        → IfOk result (λ found. HoldsBehind objects.now before.now moment (λ now.
+        RegroupsTo found (table_of table.now) now moment (dynamic_of dynamic.now))) }
+    ensures sound { AllShownBy (F.contents fetch.old) (filed_at_objects objects.now)
+        → AllShownBy (F.contents fetch.old) (filed_of table.now)
+        → F.damage fetch.new ≡ F.damage fetch.old }
+    ensures same { F.contents fetch.new ≡ F.contents fetch.old }
+    ensures goes { F.stays fetch.old fetch.new }
+    ensures counts { Counts (F.faults fetch.old) (F.faults fetch.new) result }
+{
+    if let Some(kept) = dynamic.kept() {
+        return rebased_by_groups(alloc, objects, before, moment, dynamic, kept, table, fetch);
+    }
+    let found = rebased_by_action(
+        alloc, objects, before, moment, dynamic, table, action, fetch,
+    )?;
+    let Some(rebased) = found else {
+        return Ok(None);
+    };
+    Ok(Some(Regrouped {
+        rebased,
+        groups: None,
+    }))
+}
+
+// By its rows alone.
+fn rebased_by_action<F: Fetch>(
     alloc: Global,
     objects: &[&StoredObject],
     before: &[Brought],
@@ -47,11 +96,9 @@ pub(crate) fn rebased_by<F: Fetch>(
         → AllShownBy (F.contents fetch.old) (filed_of table.now)
         → (action ≡ Incremental → HasItsRows (objects_in objects.now) (dynamic_of dynamic.now)
         (table_meant (table_of table.now)))
-        → IfOk result (λ found. (stamp : ℕ) (bs : List machine.Brought)
-        → AreBrought (stored_in objects.now) before.now bs → AreAbove 0 bs
-        → RebasesTo (last_rows (table_meant (table_of table.now)))
-        (evaluated_at (after_all stamp moment bs (objects_in objects.now)) moment
-        (dynamic_of dynamic.now)) found) }
+        → IfOk result (λ found. HoldsBehind objects.now before.now moment (λ now.
+        RebasesTo (last_rows (table_meant (table_of table.now)))
+        (evaluated_at now moment (dynamic_of dynamic.now)) found)) }
     ensures sound { AllShownBy (F.contents fetch.old) (filed_at_objects objects.now)
         → AllShownBy (F.contents fetch.old) (filed_of table.now)
         → F.damage fetch.new ≡ F.damage fetch.old }
@@ -163,8 +210,8 @@ fn rows_by_query<F: Fetch>(
     evaluated(alloc, objects, dynamic.query(), &sources, fetch)
 }
 
-// The edits that bring the rows of a table to these. Its partitions are given back.
-fn rebased<F: Fetch>(
+/// The edits that bring the rows of a table to these. Its partitions are given back.
+pub(crate) fn rebased<F: Fetch>(
     alloc: Global,
     table: &StoredTable,
     rows: Bag,

@@ -1,24 +1,29 @@
 //! What is told of a refresh, and the changes that say it.
-ghost use Rattle.std.specs.Prelude.{◌≡◌, ◌+◌, ◌++◌, ℕ, List, Option, map, length, IfOk, OnOk};
+ghost use Rattle.std.specs.Prelude.{◌≡◌, ◌+◌, ◌++◌, ℕ, List, Option, map, option_map, length};
+ghost use Rattle.std.specs.Prelude.{IfOk, OnOk};
 ghost use Rattle.std.specs.List.{AllByRecursion, flat_map};
 ghost use Rattle.wh_reply.specs.View.{refreshed_view};
 ghost use Rattle.wh_state.specs.Stored as file;
-ghost use Rattle.wh_state.specs.Written.{written};
+ghost use Rattle.wh_state.specs.State.{at_id};
+ghost use Rattle.wh_state.specs.Written.{written, version_written_to, groups_written};
 ghost use Rattle.wh_state.specs.Edits.{Edits};
 ghost use Rattle.wh_state.specs.Commit.{PushesVersion};
 ghost use Rattle.wh_state.specs.Spelling.{IsUnderstood};
 ghost use Rattle.wh_table.specs.Table.{table_of};
+ghost use Rattle.wh_dynamic.specs.View.{groups_change_of};
 ghost use Rattle.wh_machine.specs.Refresh as machine;
 ghost use Rattle.wh_machine.specs.Brought.{AreAbove};
 ghost use Rattle.wh_record.specs.View.{change_of};
 ghost use Rattle.wh_refresh.specs.Objects.{objects_in, stored_in};
-ghost use Rattle.wh_refresh.specs.Brought.{AreBrought, IsBrought, IsRowsOf};
+ghost use Rattle.wh_refresh.specs.Brought.{AreBrought, IsBrought, IsEditedAt, IsRowsOf};
+ghost use Rattle.wh_refresh.specs.Brought.{groups_of_rows};
 ghost use Rattle.wh_refresh.specs.Writing.{one_written, rows_written, StaysUnderstood};
 
 use crate::brought::{Brought, NewRows};
 use crate::objects::{name_at, table_at};
 use std::alloc::{AllocError, Global};
 use wh_catalog::{StoredObject, StoredTable};
+use wh_dynamic::GroupsChange;
 use wh_record::{Change, VersionChange};
 use wh_reply::Refreshed;
 use wh_table::EditedTable;
@@ -49,7 +54,8 @@ fn line(
     one: &Brought,
 ) -> Result<Refreshed, AllocError>
     ensures { IfOk result (λ line. (b : machine.Brought)
-        → IsBrought (stored_in objects.now) one.now b → refreshed_view line ≡ machine.told_of (objects_in objects.now) moment b) }
+        → IsBrought (stored_in objects.now) one.now b
+        → refreshed_view line ≡ machine.told_of (objects_in objects.now) moment b) }
 {
     let (plus, minus) = counts(one);
     Ok(Refreshed {
@@ -126,18 +132,62 @@ fn add_version(
     ensures written { OnOk result ((edits : Option Edits)
         → IsRowsOf (stored_in objects.now) id rows edits
         → map change_of changes.new.items ≡ map change_of changes.old.items
-        ++ rows_written (stored_in objects.now) moment id edits) }
+        ++ rows_written (stored_in objects.now) moment id edits (groups_of_rows rows)) }
     ensures understood { OnOk result (StaysUnderstood (map change_of changes.old.items)
         (map change_of changes.new.items)) }
 {
-    let Some(rows) = rows else {
+    let Some(
+        NewRows {
+            edited,
+            plus,
+            groups,
+            ..
+        },
+    ) = rows
+    else {
         return Ok(());
     };
+    add_edits(changes, objects, moment, id, plus, edited)?;
+    add_groups(changes, id, groups)?;
+    Ok(())
+}
+
+fn add_edits(
+    changes: &mut Vec<Change>,
+    objects: &[&StoredObject],
+    moment: u64,
+    id: u32,
+    plus: u64,
+    edited: EditedTable,
+) -> Result<(), AllocError>
+    ensures written { OnOk result ((e : Edits) → IsEditedAt (stored_in objects.now) id edited e
+        → plus ≡ length e.added → map change_of changes.new.items ≡ map change_of changes.old.items
+        ++ version_written_to moment id e (at_id (stored_in objects.now) id)) }
+    ensures understood { OnOk result (StaysUnderstood (map change_of changes.old.items)
+        (map change_of changes.new.items)) }
+{
     let Some(table) = table_at(objects, id) else {
         return Ok(());
     };
-    let version = version(moment, id, rows.plus, table, rows.edited)?;
+    let version = version(moment, id, plus, table, edited)?;
     changes.push(version)?;
+    Ok(())
+}
+
+fn add_groups(
+    changes: &mut Vec<Change>,
+    id: u32,
+    groups: Option<GroupsChange>,
+) -> Result<(), AllocError>
+    ensures written { OnOk result (map change_of changes.new.items
+        ≡ map change_of changes.old.items ++ groups_written id (option_map groups_change_of groups)) }
+    ensures understood { OnOk result (StaysUnderstood (map change_of changes.old.items)
+        (map change_of changes.new.items)) }
+{
+    let Some(groups) = groups else {
+        return Ok(());
+    };
+    changes.push(Change::SetsGroups { id, groups })?;
     Ok(())
 }
 

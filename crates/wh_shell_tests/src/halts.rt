@@ -97,10 +97,10 @@ fn a_halt_leaves_the_warehouse_as_it_was(rt: HostRuntime) {
 }
 
 /// A command, its answer, and the partitions that it asks for, by object and number.
-type Asking = (&'static [u8], &'static [u8], &'static [(u32, u64)]);
+pub(crate) type Asking = (&'static [u8], &'static [u8], &'static [(u32, u64)]);
 
-// Each command in turn asks for these partitions.
-fn assert_asked(
+/// Each command in turn asks for these partitions.
+pub(crate) fn assert_asked(
     rt: &(impl Abort + Threads + Sync),
     alloc: Global,
     warehouse: &mut Warehouse<MemDisk>,
@@ -125,8 +125,8 @@ fn names(rt: &impl Abort, alloc: Global, asked: &[(u32, u64)]) -> Vec<PartId> {
     wanted
 }
 
-// A table of 1,500 rows: 1,000 in its first partition, and 500 in the second.
-fn filled(rt: &(impl Abort + Threads + Sync), alloc: Global) -> Warehouse<MemDisk> {
+/// A table of 1,500 rows: 1,000 in its first partition, and 500 in the second.
+pub(crate) fn filled(rt: &(impl Abort + Threads + Sync), alloc: Global) -> Warehouse<MemDisk> {
     let mut warehouse = opened(rt, alloc, disk_of(rt, alloc, b"", 1 << 20, &[]));
     let create = b"CREATE TABLE T(K NUMBER, V NUMBER)";
     assert_answer(rt, alloc, &mut warehouse, create, b"CREATED TABLE T\n");

@@ -1,5 +1,5 @@
 //! Scripts that are stopped at every call of the disk, and what is listed of the file that is left:
-//! transactions of two sessions, and commits that consume a stream.
+//! transactions of two sessions, commits that consume a stream, and refreshes of kept groups.
 
 use crate::running::{RunEnd, stopped};
 use std::alloc::Global;
@@ -16,7 +16,8 @@ pub(crate) struct Held {
     pub(crate) listed: &'static [&'static [u8]],
 }
 
-/// A script each of whose commits is answered by a line that begins with `CREATED` or `COMMITTED`.
+/// A script each of whose commits is answered by a line that begins with `C`: `CREATED`, `COMMITTED`
+/// or the name of a table that is refreshed.
 #[derive(Clone, Copy)]
 struct Commits {
     script: &'static [u8],
@@ -136,6 +137,39 @@ COMMIT;
     },
 };
 
+/// Six commits: a table of groups is refreshed twice. What is listed refreshes it once more, by the
+/// groups that the file has.
+const GROUPS: Commits = Commits {
+    script: b"CREATE TABLE T(K NUMBER, V NUMBER);
+CREATE DYNAMIC TABLE COUNTS TARGET_LAG = '1 hour' INITIALIZE = ON_SCHEDULE AS SELECT K, COUNT(*) AS N, SUM(V) AS S FROM T GROUP BY K;
+BEGIN;
+INSERT INTO T VALUES (1, 10), (2, 20), (2, 22);
+COMMIT;
+ALTER DYNAMIC TABLE COUNTS REFRESH;
+BEGIN;
+INSERT INTO T VALUES (1, 5), (3, NULL);
+DELETE FROM T WHERE V = 20;
+COMMIT;
+ALTER DYNAMIC TABLE COUNTS REFRESH;
+",
+    refusals: 0,
+    held: Held {
+        listings: b"SELECT * FROM COUNTS;
+INSERT INTO T VALUES (2, 1);
+ALTER DYNAMIC TABLE COUNTS REFRESH;
+SELECT * FROM COUNTS;",
+        listed: &[
+            b"E6 UnknownName COUNTS\nE6 UnknownName T\nE6 UnknownName COUNTS\nE6 UnknownName COUNTS\n",
+            b"E6 UnknownName COUNTS\nINSERTED 1\nE6 UnknownName COUNTS\nE6 UnknownName COUNTS\n",
+            b"E14 NotInitialized COUNTS\nINSERTED 1\nCOUNTS REFRESHED 5 FULL +1 -0\nK | N | S\n2 | 1 | 1\n(1 rows)\n",
+            b"E14 NotInitialized COUNTS\nINSERTED 1\nCOUNTS REFRESHED 8 FULL +2 -0\nK | N | S\n1 | 1 | 10\n2 | 3 | 43\n(2 rows)\n",
+            b"K | N | S\n1 | 1 | 10\n2 | 2 | 42\n(2 rows)\nINSERTED 1\nCOUNTS REFRESHED 9 INCREMENTAL +1 -1\nK | N | S\n1 | 1 | 10\n2 | 3 | 43\n(2 rows)\n",
+            b"K | N | S\n1 | 1 | 10\n2 | 2 | 42\n(2 rows)\nINSERTED 1\nCOUNTS REFRESHED 13 INCREMENTAL +3 -2\nK | N | S\n1 | 2 | 15\n2 | 2 | 23\n3 | 1 | NULL\n(3 rows)\n",
+            b"K | N | S\n1 | 2 | 15\n2 | 1 | 22\n3 | 1 | NULL\n(3 rows)\nINSERTED 1\nCOUNTS REFRESHED 14 INCREMENTAL +1 -1\nK | N | S\n1 | 2 | 15\n2 | 2 | 23\n3 | 1 | NULL\n(3 rows)\n",
+        ],
+    },
+};
+
 /// How many commits the listings of a file show; none where they print anything else.
 pub(crate) fn commits_in(
     rt: &(impl Abort + Threads + Sync),
@@ -152,7 +186,7 @@ pub(crate) fn commits_in(
     None
 }
 
-/// How many commits are told: lines that begin with `CREATED` or `COMMITTED`.
+/// How many commits are told: lines that begin with `C`.
 fn commits_told(text: &[u8]) -> usize {
     let mut count = 0usize;
     let mut begins = true;
@@ -258,4 +292,9 @@ fn a_stop_while_changes_are_moved_on_leaves_them_moved_once(rt: HostRuntime) {
 #[test]
 fn a_stop_while_appended_rows_are_moved_on_leaves_them_moved_once(rt: HostRuntime) {
     assert_stops(&rt, rt.alloc(), &APPENDED, 3);
+}
+
+#[test]
+fn a_stop_while_groups_are_kept_leaves_them_beside_their_rows(rt: HostRuntime) {
+    assert_stops(&rt, rt.alloc(), &GROUPS, 4);
 }

@@ -1,5 +1,6 @@
 -- What is written for acts means what they do.
---     edit_meant, other_meant     an act that edits an orderly table, and any other one
+--     edit_meant, refresh_meant   an act that edits an orderly table, and one that refreshes one
+--     other_meant                 any other one
 --     AreEditsFrom                edits and refreshes of tables by rising ids, with any other acts between them
 --     no_edits_from, from_less    others alone, and edits from a lower id on
 --     acts_meant, written_meant   these, and their commit
@@ -8,16 +9,17 @@ use Rattle.std.proofs.Common.{option_map, refl, sym, ap, subst, ◌∙◌, arith
 use Rattle.std.specs.List.{AllByRecursion}
 use Rattle.std.specs.Option.{IfSome}
 use Rattle.std.proofs.lemmas.List.{length-map, map-append}
-use Rattle.wh_state.specs.State.{changed_at, new_object}
+use Rattle.wh_state.specs.State.{changed_at, new_object, empty_table}
 use Rattle.wh_state.specs.State.{TaskKind, DynamicKind}
-use Rattle.wh_state.specs.State.{Object, at_id, with_id, put_at, dropped}
+use Rattle.wh_state.specs.State.{Object, Kind, at_id, with_id, put_at, dropped}
 use Rattle.wh_state.specs.State.{last_of, content_in, stamped, TableKind, StreamKind}
 use Rattle.wh_state.specs.Edits.{Edits}
 use Rattle.wh_state.specs.Act.{MakesTask, PutsTask, BeginsRun, EndsTask, on_task_object}
 use Rattle.wh_state.specs.Act.{Act, MakesTable, DropsObject, EditsRows, MakesStream, MovesOffset}
 use Rattle.wh_state.specs.Act.{edited_object, moved_object, acted, all_acted, done, on_dynamic_object, MakesDynamic}
 use Rattle.wh_state.specs.Act.{PutsDynamic, RefreshesRows}
-use Rattle.wh_state.specs.Dynamic.{Dynamic, with_dynamic_state}
+use Rattle.wh_state.specs.Dynamic.{Dynamic, Kept, GroupsChange, new_dynamic, with_dynamic_state, behind_change}
+use Rattle.wh_state.specs.Dynamic.{with_groups}
 use Rattle.wh_state.specs.Stored.{StoredVersion, StoredTable, StoredKind, StoredObject, Stored, standing}
 use Rattle.wh_state.specs.Stored.{object_meant, meant}
 use Rattle.wh_state.specs.Commit.{TaskChange, CreatesTask, on_task_stored, on_dynamic_stored, DynamicChange}
@@ -27,19 +29,27 @@ use Rattle.wh_state.specs.Commit.{SetsOffset, pushed_object, offset_set, changed
 use Rattle.wh_state.specs.Orderly.{IsOrderly, IsOrderlyVersion, IsOrderlyTable, IsOrderlyKind, IsOrderlyObject}
 use Rattle.wh_state.specs.Orderly.{IsOrderlyStored}
 pub use Rattle.wh_state.specs.Written.{version_change}
-use Rattle.wh_state.specs.Written.{version_written, version_written_to, act_written, written, commit_for}
+use Rattle.wh_state.specs.Written.{version_written, version_written_to, groups_written, act_written, written}
+use Rattle.wh_state.specs.Written.{commit_for}
 use Rattle.wh_state.proofs.AllLaws.{all_at}
-use Rattle.wh_state.proofs.IdLaws.{map_changed, at_other, with_same}
+use Rattle.wh_state.proofs.IdLaws.{map_changed, at_other, with_same, changed_same}
 pub use Rattle.wh_state.proofs.NextVersion.{edited_meant}
 use Rattle.wh_state.proofs.NextVersion.{edited_object_meant, edited_dynamic_meant}
 use Rattle.wh_state.proofs.FoundLaws.{if_found_changed, if_found_more}
 use Rattle.wh_state.proofs.KindLaws.{offset_keeps, task_keeps, dynamic_keeps}
-use Rattle.wh_state.proofs.MeaningLaws.{root_meant}
+use Rattle.wh_state.proofs.MeaningLaws.{root_meant, kept_for_meant}
+use Rattle.wh_state.proofs.PlaceLaws.{changed_twice}
 use Rattle.wh_state.proofs.MeaningLaws.{at_id_meant, with_id_meant, columns_meant}
 use Rattle.wh_state.specs.Task.{Task, new_task, with_state, with_run, with_ended, root_by}
 use Rattle.wh_state.specs.Objects.{task_at}
 
 -- ---- acts
+
+-- changes behind others
+pub all_changed_append : (stamp : ℕ) (objects : List StoredObject) (cs ds : List Change)
+    → all_changed stamp objects (cs ++ ds) ≡ all_changed stamp (all_changed stamp objects cs) ds
+all_changed_append stamp objects [] ds = refl
+all_changed_append stamp objects (c ∷ cs) ds = all_changed_append stamp (changed stamp objects c) cs ds
 
 made_meant : (stamp : ℕ) (objects : List StoredObject) (c : TableChange)
     → map object_meant (changed stamp objects (CreatesTable c))
@@ -111,7 +121,11 @@ dynamic_meant : (stamp : ℕ) (objects : List StoredObject) (c : DynamicChange)
     → map object_meant (changed stamp objects (CreatesDynamic c))
     ≡ acted stamp (map object_meant objects) (MakesDynamic c.name c.lag c.is_incremental c.query c.columns)
 unfolding changed
-dynamic_meant stamp objects c = map-append object_meant objects _
+dynamic_meant stamp objects c =
+    map-append object_meant objects _
+    ∙ ap (λ (kept : Option Kept). map object_meant objects ++ new_object c.name
+    (DynamicKind (new_dynamic c.lag c.is_incremental kept c.query) (empty_table c.columns stamp)) ∷ [])
+    (sym (kept_for_meant objects c.is_incremental c.query))
 
 dropped_meant : (stamp : ℕ) (objects : List StoredObject) (id : ℕ)
     → map object_meant (changed stamp objects (Drops id)) ≡ acted stamp (map object_meant objects) (DropsObject id)
@@ -186,10 +200,39 @@ edit_meant stamp moment objects id e orderly =
     by_found None none orderly = refl
     by_found (Some o) there orderly = by_kind o o.kind there refl orderly
 
+-- what is done to groups behind a version
+groups_meant : (stamp : ℕ) (objects : List StoredObject) (id : ℕ) (c : Option GroupsChange)
+    → map object_meant (all_changed stamp objects (groups_written id c))
+    ≡ changed_at (map object_meant objects) id (on_dynamic_object (with_groups c))
+unfolding changed
+groups_meant stamp objects id (Some c) = on_dynamic_meant (behind_change c) objects id
+groups_meant stamp objects id None =
+    sym (changed_same (on_dynamic_object (with_groups None)) (λ o. by_kind o o.kind) (map object_meant objects) id)
+  where
+    by_kind : (o : Object) (k : Kind)
+        → on_dynamic_object (with_groups None) (record o { kind = k }) ≡ record o { kind = k }
+    by_kind o (TableKind t) = refl
+    by_kind o (StreamKind s) = refl
+    by_kind o (TaskKind t) = refl
+    by_kind o (DynamicKind d t) = refl
+
+-- the refresh of a dynamic table
+refresh_meant : (stamp moment : ℕ) (objects : List StoredObject) (id : ℕ) (e : Edits) (c : Option GroupsChange)
+    → OrderlyAt (at_id objects id)
+    → map object_meant (all_changed stamp objects (act_written stamp objects (RefreshesRows id moment e c)))
+    ≡ acted stamp (map object_meant objects) (RefreshesRows id moment e c)
+refresh_meant stamp moment objects id e c orderly =
+    let version : List Change = version_written_to moment id e (at_id objects id) in
+    ap (map object_meant) (all_changed_append stamp objects version (groups_written id c))
+    ∙ groups_meant stamp (all_changed stamp objects version) id c
+    ∙ ap (λ (os : List Object). changed_at os id (on_dynamic_object (with_groups c)))
+    (edit_meant stamp moment objects id e orderly)
+    ∙ changed_twice (edited_object stamp moment e) (on_dynamic_object (with_groups c)) (map object_meant objects) id
+
 -- an act that makes no version of a table
 abbrev pub IsNoEdit : Act → Type 0
 IsNoEdit (EditsRows id e) = ⊥
-IsNoEdit (RefreshesRows id moment e) = ⊥
+IsNoEdit (RefreshesRows id moment e c) = ⊥
 IsNoEdit _ = Unit {0}
 
 other_meant : (stamp : ℕ) (objects : List StoredObject) (act : Act) → IsNoEdit act
@@ -223,7 +266,7 @@ other_meant stamp objects (MakesDynamic name lag is_incremental query columns) o
       columns = columns;
     })
 other_meant stamp objects (PutsDynamic id state) other = on_dynamic_meant (with_dynamic_state state) objects id
-other_meant stamp objects (RefreshesRows id moment e) other = absurd other
+other_meant stamp objects (RefreshesRows id moment e c) other = absurd other
 
 -- ---- the acts of a commit
 
@@ -243,8 +286,8 @@ pub data AreEditsFrom : ℕ → List Act → Type 0 where
       → AreEditsFrom least (act ∷ acts)
   next_edit : {least id : ℕ} {e : Edits} {acts : List Act} → least ≤ id → AreEditsFrom (suc id) acts
       → AreEditsFrom least (EditsRows id e ∷ acts)
-  next_refresh : {least id moment : ℕ} {e : Edits} {acts : List Act} → least ≤ id → AreEditsFrom (suc id) acts
-      → AreEditsFrom least (RefreshesRows id moment e ∷ acts)
+  next_refresh : {least id moment : ℕ} {e : Edits} {c : Option GroupsChange} {acts : List Act} → least ≤ id
+      → AreEditsFrom (suc id) acts → AreEditsFrom least (RefreshesRows id moment e c ∷ acts)
 
 pub no_edits_from : (least : ℕ) (acts : List Act) → AreNoEdits acts → AreEditsFrom least acts
 no_edits_from least [] are = no_more_edits
@@ -254,13 +297,8 @@ pub from_less : (least more : ℕ) (acts : List Act) → least ≤ more → AreE
 from_less least more [] h no_more_edits = no_more_edits
 from_less least more (act ∷ acts) h (other_act other rising) = other_act other (from_less least more acts h rising)
 from_less least more (EditsRows id e ∷ acts) h (next_edit from rising) = next_edit (omega (arith, from)) rising
-from_less least more (RefreshesRows id moment e ∷ acts) h (next_refresh from rising) =
+from_less least more (RefreshesRows id moment e c ∷ acts) h (next_refresh from rising) =
     next_refresh (omega (arith, from)) rising
-
-pub all_changed_append : (stamp : ℕ) (objects : List StoredObject) (cs ds : List Change)
-    → all_changed stamp objects (cs ++ ds) ≡ all_changed stamp (all_changed stamp objects cs) ds
-all_changed_append stamp objects [] ds = refl
-all_changed_append stamp objects (c ∷ cs) ds = all_changed_append stamp (changed stamp objects c) cs ds
 
 -- an act, and then others
 more_meant : (stamp : ℕ) (objects : List StoredObject) (act : Act) (acts : List Act)
@@ -299,6 +337,25 @@ pub edit_leaves : (stamp id : ℕ) (e : Edits) (objects : List StoredObject) (la
     → at_id (all_changed stamp objects (act_written stamp objects (EditsRows id e))) later ≡ at_id objects later
 edit_leaves stamp id e objects later h = version_leaves stamp stamp id e objects later h
 
+-- and so does what is written for a refresh
+pub refresh_leaves : (stamp moment id : ℕ) (e : Edits) (c : Option GroupsChange) (objects : List StoredObject)
+    → (later : ℕ) → id < later
+    → at_id (all_changed stamp objects (act_written stamp objects (RefreshesRows id moment e c))) later
+    ≡ at_id objects later
+unfolding changed
+refresh_leaves stamp moment id e c objects later h =
+    ap (λ (os : List StoredObject). at_id os later) (all_changed_append stamp objects version (groups_written id c))
+    ∙ by_groups c ∙ version_leaves stamp moment id e objects later h
+  where
+    version : List Change
+    version = version_written_to moment id e (at_id objects id)
+
+    by_groups : (c : Option GroupsChange)
+        → at_id (all_changed stamp (all_changed stamp objects version) (groups_written id c)) later
+        ≡ at_id (all_changed stamp objects version) later
+    by_groups None = refl
+    by_groups (Some c) = at_other (on_dynamic_stored (behind_change c)) (all_changed stamp objects version) id later h
+
 -- ---- what is orderly from an id on stays so
 
 abbrev pub OrderlyFrom : ℕ → List StoredObject → Type 0
@@ -322,7 +379,7 @@ other_orderly : (stamp least : ℕ) (objects : List StoredObject) (act : Act) �
     → OrderlyFrom least (all_changed stamp objects (act_written stamp objects act))
 unfolding changed
 other_orderly stamp least objects (EditsRows id e) other orderly = absurd other
-other_orderly stamp least objects (RefreshesRows id moment e) other orderly = absurd other
+other_orderly stamp least objects (RefreshesRows id moment e c) other orderly = absurd other
 other_orderly stamp least objects (MakesTable name columns retention) other orderly =
     more_orderly least objects _ (record { numbers = tt; rows = tt; apart = tt }, tt) orderly
 other_orderly stamp least objects (DropsObject id) other orderly =
@@ -346,12 +403,12 @@ other_orderly stamp least objects (PutsDynamic id state) other orderly =
     changed_orderly (on_dynamic_stored (with_dynamic_state state))
     (λ o h. dynamic_keeps IsOrderlyKind (with_dynamic_state state) (λ d t h. h) o.kind h) least objects id orderly
 
-later_orderly : (stamp moment least id : ℕ) (e : Edits) (objects : List StoredObject) → least ≤ id
-    → OrderlyFrom least objects
-    → OrderlyFrom (suc id) (all_changed stamp objects (version_written_to moment id e (at_id objects id)))
-later_orderly stamp moment least id e objects from orderly later h =
-    subst OrderlyAt (sym (version_leaves stamp moment id e objects later (omega arith)))
-    (orderly later (omega (arith, from)))
+-- behind what leaves the objects of later ids
+later_orderly : (least id : ℕ) (objects new : List StoredObject) → least ≤ id
+    → ((later : ℕ) → id < later → at_id new later ≡ at_id objects later) → OrderlyFrom least objects
+    → OrderlyFrom (suc id) new
+later_orderly least id objects new from leaves orderly later h =
+    subst OrderlyAt (sym (leaves later (omega arith))) (orderly later (omega (arith, from)))
 
 acts_meant : (stamp least : ℕ) (objects : List StoredObject) (acts : List Act) → AreEditsFrom least acts
     → OrderlyFrom least objects
@@ -365,12 +422,14 @@ acts_meant stamp least objects (act ∷ acts) (other_act other rising) orderly =
 acts_meant stamp least objects (EditsRows id e ∷ acts) (next_edit from rising) orderly =
     more_meant stamp objects (EditsRows id e) acts (edit_meant stamp stamp objects id e (orderly id from)) (λ first is.
     acts_meant stamp (suc id) first acts rising
-    (subst (OrderlyFrom (suc id)) (sym is) (later_orderly stamp stamp least id e objects from orderly)))
-acts_meant stamp least objects (RefreshesRows id moment e ∷ acts) (next_refresh from rising) orderly =
-    more_meant stamp objects (RefreshesRows id moment e) acts
-    (edit_meant stamp moment objects id e (orderly id from)) (λ first is.
+    (subst (OrderlyFrom (suc id)) (sym is)
+    (later_orderly least id objects _ from (edit_leaves stamp id e objects) orderly)))
+acts_meant stamp least objects (RefreshesRows id moment e c ∷ acts) (next_refresh from rising) orderly =
+    more_meant stamp objects (RefreshesRows id moment e c) acts
+    (refresh_meant stamp moment objects id e c (orderly id from)) (λ first is.
     acts_meant stamp (suc id) first acts rising
-    (subst (OrderlyFrom (suc id)) (sym is) (later_orderly stamp moment least id e objects from orderly)))
+    (subst (OrderlyFrom (suc id)) (sym is)
+    (later_orderly least id objects _ from (refresh_leaves stamp moment id e c objects) orderly)))
 
 orderly_from : (s : Stored) → IsOrderlyStored s → OrderlyFrom 0 s.objects
 orderly_from s orderly id h = by_found (at_id s.objects id) refl

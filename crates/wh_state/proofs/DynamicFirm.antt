@@ -22,7 +22,7 @@ use Rattle.wh_naming.specs.Select.{bound_query, column_of}
 use Rattle.wh_state.specs.State.{TableKind, StreamKind, TaskKind, DynamicKind, table_in, dynamic_in, columns_in, at_id}
 use Rattle.wh_state.specs.State.{changed_at}
 use Rattle.wh_state.specs.Dynamic.{Source, DynamicQuery, DynamicState, Dynamic, new_dynamic, with_dynamic_state}
-use Rattle.wh_state.specs.Dynamic.{most_failed_refreshes}
+use Rattle.wh_state.specs.Dynamic.{most_failed_refreshes, Kept, GroupsChange, behind_change}
 use Rattle.wh_state.specs.Bound.{source_kind, named_as, names_among, query_bound, IsLiveSource, but_taken}
 use Rattle.wh_state.specs.Stored.{StoredKind, StoredObject}
 use Rattle.wh_state.specs.Commit.{IsLag, DynamicChange, DynamicApplies, DynamicStateApplies, TakesState}
@@ -205,9 +205,9 @@ live_there None live = live
 live_there (Some o) live = tt
 
 -- a new one
-pub made_firm : (objects : List StoredObject) (c : DynamicChange) → HasQueryTokens c.query.tree
-    → DynamicApplies objects c → IsFirmDynamic objects (new_dynamic c.lag c.is_incremental c.query) c.columns
-made_firm objects c written applies = record {
+pub made_firm : (objects : List StoredObject) (c : DynamicChange) (kept : Option Kept) → HasQueryTokens c.query.tree
+    → DynamicApplies objects c → IsFirmDynamic objects (new_dynamic c.lag c.is_incremental kept c.query) c.columns
+made_firm objects c kept written applies = record {
   lag = applies.lag;
   few = omega arith;
   written = written;
@@ -245,3 +245,9 @@ pub state_holds : (s : DynamicState) → IsTaken s → (objects : List StoredObj
     → IsFirmDynamic objects d columns → IsFirmDynamic objects (with_dynamic_state s d) columns
 state_holds s taken objects d columns firm =
     record { lag = taken.lag; few = taken.failures; written = firm.written; bound = firm.bound }
+
+-- one behind a change of its groups
+pub groups_hold : (c : GroupsChange) (objects : List StoredObject) (d : Dynamic) (columns : List Column)
+    → IsFirmDynamic objects d columns → IsFirmDynamic objects (behind_change c d) columns
+groups_hold c objects d columns firm =
+    record { lag = firm.lag; few = firm.few; written = firm.written; bound = firm.bound }

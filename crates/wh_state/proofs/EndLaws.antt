@@ -20,7 +20,7 @@ use Rattle.wh_state.specs.Stored.{StoredKind, StoredObject}
 use Rattle.wh_state.specs.Commit.{Change, CreatesTable, Drops, PushesVersion, CreatesStream, SetsOffset, CreatesTask}
 use Rattle.wh_state.specs.Commit.{SetsTask}
 use Rattle.wh_state.specs.Commit.{StartsRun, FinishesTask, pushed_object, offset_set, on_task_stored, changed}
-use Rattle.wh_state.specs.Commit.{CreatesDynamic, SetsDynamic}
+use Rattle.wh_state.specs.Commit.{CreatesDynamic, SetsDynamic, SetsGroups}
 use Rattle.wh_state.specs.Commit.{all_changed}
 use Rattle.wh_state.specs.Commit.{IsLiveTask, waits, waits_in}
 use Rattle.wh_state.specs.Written.{version_written_to, act_written, written}
@@ -29,7 +29,7 @@ use Rattle.wh_state.proofs.ActLaws.{all_changed_append}
 use Rattle.wh_state.proofs.FoundLaws.{found_became, found_changed}
 use Rattle.wh_state.proofs.TaskFirm.{TasksRise, from_least}
 use Rattle.wh_state.proofs.FirmLaws.{offset_task, pushed_task}
-use Rattle.wh_state.proofs.WrittenLaws.{AllGo, go_append, ActStands, AllStand, ChangeSpares}
+use Rattle.wh_state.proofs.WrittenLaws.{AllGo, go_append, go_first, ActStands, AllStand, ChangeSpares}
 
 -- ---- changes of rows and offsets
 
@@ -69,7 +69,7 @@ act_of_rows stamp start objects (BeginsRun root tasks) stands later = absurd sta
 act_of_rows stamp start objects (EndsTask root task ending) stands later = absurd stands
 act_of_rows stamp start objects (MakesDynamic name lag is_incremental query columns) stands later = absurd stands
 act_of_rows stamp start objects (PutsDynamic id state) stands later = absurd stands
-act_of_rows stamp start objects (RefreshesRows id moment e) stands later = absurd stands
+act_of_rows stamp start objects (RefreshesRows id moment e c) stands later = absurd stands
 
 pub acts_of_rows : (stamp start : ℕ) (objects : List StoredObject) (acts : List Act) → AllStand stamp start objects acts
     → (later : List StoredObject) → AreOfRows (written stamp later acts)
@@ -91,6 +91,7 @@ change_spares id (StartsRun root tasks) rows = absurd rows
 change_spares id (FinishesTask root task ending) rows = absurd rows
 change_spares id (CreatesDynamic c) rows = absurd rows
 change_spares id (SetsDynamic other state) rows = absurd rows
+change_spares id (SetsGroups other c) rows = absurd rows
 
 pub rows_spare : (id : ℕ) (cs : List Change) → AreOfRows cs → AllByRecursion (ChangeSpares id) cs
 rows_spare id cs rows = all_map IsOfRows (ChangeSpares id) (change_spares id) cs rows
@@ -116,6 +117,7 @@ one_behind P stamp objects id (StartsRun root tasks) rows live = absurd rows
 one_behind P stamp objects id (FinishesTask root task ending) rows live = absurd rows
 one_behind P stamp objects id (CreatesDynamic c) rows live = absurd rows
 one_behind P stamp objects id (SetsDynamic other state) rows live = absurd rows
+one_behind P stamp objects id (SetsGroups other c) rows live = absurd rows
 
 pub live_behind : (P : Task → Type 0) (stamp : ℕ) (objects : List StoredObject) (id : ℕ) (cs : List Change)
     → AreOfRows cs
@@ -225,14 +227,11 @@ one_ends : (stamp : ℕ) (objects : List StoredObject) (root id : ℕ) (ending :
     → ((later : List StoredObject) → IsLiveTask (AllWait ids) (at_id later root)
     → AllGo stamp later (written stamp later more))
     → AllGo stamp objects (written stamp objects (EndsTask root id ending ∷ more))
-one_ends stamp objects root id ending ids more rise wait goes = (
-  live_map (AllWait (id ∷ ids)) (λ t. IsTrue (waits_in t.run id)) (λ t h. h.0) (at_id objects root) wait,
-  (
-    tt,
-    goes (changed stamp objects (FinishesTask root id ending))
-        (end_leaves stamp objects root id ending ids rise wait),
-  ),
-)
+one_ends stamp objects root id ending ids more rise wait goes =
+    let ended : List StoredObject = changed stamp objects (FinishesTask root id ending) in
+    go_first stamp objects (FinishesTask root id ending) (written stamp ended more) refl refl
+    (live_map (AllWait (id ∷ ids)) (λ t. IsTrue (waits_in t.run id)) (λ t h. h.0) (at_id objects root) wait) tt
+    (goes ended (end_leaves stamp objects root id ending ids rise wait))
 
 all_end : (stamp : ℕ) (objects : List StoredObject) (root least : ℕ) (ending : Ending) (ids : List ℕ) (more : List Act)
     → TasksRise least ids → IsLiveTask (AllWait ids) (at_id objects root) → GoesBehind stamp root more

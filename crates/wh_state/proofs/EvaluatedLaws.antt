@@ -4,8 +4,10 @@
 --                                   those of dynamic tables up to their own
 --     next_same, follows_refl       what stays follows itself
 --     bag_follows, bound_follows    the rows of a source, and what a query binds to
+--     kept_follows                  how its groups are kept first
 --     ids_read_hold                 what holds of the ids that it is kept with
 --     evaluated_same, evaluated_follows     so what it gives
+--     groups_same, groups_follow    and its groups
 --     written_same, written_is      what it gives over tables alone
 --     rows_last                     all versions stand for no later moment
 use Rattle.std.proofs.Common.{◌≡◌, ℕ, ◌<◌, ◌≤◌, Bool, true, false, cond, List, [], ◌∷◌, ◌++◌, map, length}
@@ -26,8 +28,11 @@ use Rattle.wh_state.specs.State.{table_in, dynamic_in}
 use Rattle.wh_state.specs.Task.{Task}
 use Rattle.wh_state.specs.Dynamic.{Source, DynamicQuery, Dynamic, id_named, ids_read}
 use Rattle.wh_state.specs.Objects.{as_table, as_dynamic, dynamic_at}
-use Rattle.wh_state.specs.Bound.{named_as, names_among, query_bound}
-use Rattle.wh_state.specs.Moments.{bag_at, instance_at, evaluated_at, with_given, all_given, written_out}
+use Rattle.wh_maintenance.specs.Above.{grouping}
+use Rattle.wh_state.specs.Bound.{named_as, names_among, query_bound, grouping_bound, kept_first, kept_for}
+use Rattle.wh_maintenance.specs.Entries.{groups_over}
+use Rattle.wh_state.specs.Moments.{bag_at, instance_at, evaluated_at, groups_at, with_given, all_given}
+use Rattle.wh_state.specs.Moments.{written_out}
 use Rattle.wh_state.specs.Edits.{Edits}
 use Rattle.wh_state.specs.Act.{edited_table, next_contents}
 use Rattle.wh_state.proofs.AllLaws.{all_map, all_both}
@@ -147,6 +152,13 @@ pub bound_follows : (before : ℕ) (old new : List Object) → Follows before ol
 bound_follows before old new follows q there =
     ap (λ (names : List Named). bound_query q.tree names 0) (names_follow before old new follows q.sources there)
 
+-- how its groups are kept first
+pub kept_follows : (before : ℕ) (old new : List Object) → Follows before old new → (is_incremental : Bool)
+    → (q : DynamicQuery) → IsThere old q → kept_for new is_incremental q ≡ kept_for old is_incremental q
+kept_follows before old new follows is_incremental q there =
+    ap (λ (b : BoundQuery). cond is_incremental (option_map kept_first (grouping b.query)) None)
+    (bound_follows before old new follows q there)
+
 -- ---- what it gives
 
 id_holds : (P : ℕ → Type 0) → P 0 → (sources : List Source) → AllByRecursion (λ s. P s.id) sources → (name : List ℕ)
@@ -189,6 +201,18 @@ evaluated_same old new from to d bound same =
     ∙ ap (λ (bags : List Bag). eval (query_bound old d.query).query bags)
     (instance_same old new from to (ids_read d.query) same)
 
+-- and its groups
+pub groups_same : (old new : List Object) (from to : ℕ) (d : Dynamic)
+    → query_bound new d.query ≡ query_bound old d.query
+    → AllByRecursion (λ id. bag_at new to id ≡ bag_at old from id) (ids_read d.query)
+    → groups_at new to d ≡ groups_at old from d
+unfolding groups_at
+groups_same old new from to d bound same =
+    ap (λ (b : BoundQuery). option_and_then (groups_over (instance_at new to (ids_read d.query))) (grouping b.query))
+    bound
+    ∙ ap (λ (bags : List Bag). option_and_then (groups_over bags) (grouping_bound old d.query))
+    (instance_same old new from to (ids_read d.query) same)
+
 -- the dynamic tables that it reads stand for a moment, or later ones
 abbrev pub StandFrom : ℕ → List Object → List ℕ → Type 0
 StandFrom moment objects ids = AllByRecursion (λ id. IfSome (dynamic_at objects id) (λ e. moment ≤ e.state.moment)) ids
@@ -209,16 +233,29 @@ stand_from moment objects ids stand =
     by_found None at = tt
     by_found (Some e) at = omega (arith, at)
 
--- for a moment that those stand for
+-- the rows that it reads for a moment that those stand for
+rows_follow : (before time : ℕ) (old new : List Object) → Follows before old new → (d : Dynamic)
+    → IsThere old d.query → time < before → StandFrom time old (ids_read d.query)
+    → AllByRecursion (λ id. bag_at new time id ≡ bag_at old time id) (ids_read d.query)
+rows_follow before time old new follows d there within stand =
+    all_both (λ id. id ≤ length old) (λ id. IfSome (dynamic_at old id) (λ e. time ≤ e.state.moment))
+    (λ id. bag_at new time id ≡ bag_at old time id)
+    (λ id here up. bag_follows before time old new follows id here within up) (ids_read d.query)
+    (ids_read_hold (λ id. id ≤ length old) (omega arith) d.query there) stand
+
 pub evaluated_follows : (before time : ℕ) (old new : List Object) → Follows before old new → (d : Dynamic)
     → IsThere old d.query → time < before → StandFrom time old (ids_read d.query)
     → evaluated_at new time d ≡ evaluated_at old time d
 evaluated_follows before time old new follows d there within stand =
     evaluated_same old new time time d (bound_follows before old new follows d.query there)
-    (all_both (λ id. id ≤ length old) (λ id. IfSome (dynamic_at old id) (λ e. time ≤ e.state.moment))
-    (λ id. bag_at new time id ≡ bag_at old time id)
-    (λ id here up. bag_follows before time old new follows id here within up) (ids_read d.query)
-    (ids_read_hold (λ id. id ≤ length old) (omega arith) d.query there) stand)
+    (rows_follow before time old new follows d there within stand)
+
+pub groups_follow : (before time : ℕ) (old new : List Object) → Follows before old new → (d : Dynamic)
+    → IsThere old d.query → time < before → StandFrom time old (ids_read d.query)
+    → groups_at new time d ≡ groups_at old time d
+groups_follow before time old new follows d there within stand =
+    groups_same old new time time d (bound_follows before old new follows d.query there)
+    (rows_follow before time old new follows d there within stand)
 
 -- ---- over tables alone
 

@@ -26,13 +26,13 @@ use Rattle.wh_state.specs.Commit.{CreatesTask, SetsTask, StartsRun, FinishesTask
 use Rattle.wh_state.specs.Commit.{VersionChange, Change, CreatesTable, Drops, PushesVersion, CreatesStream, SetsOffset}
 use Rattle.wh_state.specs.Commit.{pushed, pushed_kind, pushed_object, offset_set, changed, all_changed}
 use Rattle.wh_state.specs.State.{on_dynamic, empty_table}
-use Rattle.wh_state.specs.Dynamic.{Dynamic, with_dynamic_state}
-use Rattle.wh_state.specs.Commit.{CreatesDynamic, SetsDynamic, on_dynamic_stored}
+use Rattle.wh_state.specs.Dynamic.{Dynamic, with_dynamic_state, behind_change}
+use Rattle.wh_state.specs.Commit.{CreatesDynamic, SetsDynamic, SetsGroups, on_dynamic_stored}
 use Rattle.wh_state.specs.State.{on_task}
 use Rattle.wh_state.specs.Bound.{source_kind}
 use Rattle.wh_state.proofs.DynamicFirm.{HasColumns, KindHasColumns, HasQueryTokens, spelled_query, IsFirmDynamic}
 use Rattle.wh_state.proofs.DynamicFirm.{DynamicHolds, AreFirmDynamics, KeepsSeen, dynamics_changed, dynamics_more}
-use Rattle.wh_state.proofs.DynamicFirm.{made_firm, made_filled, state_taken, state_holds}
+use Rattle.wh_state.proofs.DynamicFirm.{made_firm, made_filled, state_taken, state_holds, groups_hold}
 use Rattle.wh_state.proofs.KindLaws.{task_keeps, dynamic_keeps}
 use Rattle.wh_state.proofs.KindLaws.{offset_keeps}
 use Rattle.wh_state.specs.Commit.{Commit, applied, Leads, RowsFit, VersionApplies, FitsKind, FitsObject, IsLiveTable}
@@ -558,12 +558,14 @@ firm_changed stamp objects (CreatesDynamic c) applies rises firm = record {
   streams = streams_more objects _ tt firm.streams;
   tasks = tasks_more objects _ tt firm.tasks;
   columns = all_more HasColumns objects _ firm.columns (made_filled objects c applies);
-  dynamics = dynamics_more objects _ (made_firm objects c rises applies) firm.dynamics;
+  dynamics = dynamics_more objects _ (made_firm objects c _ rises applies) firm.dynamics;
 }
 firm_changed stamp objects (SetsDynamic id state) applies rises firm =
     dynamic_firm (with_dynamic_state state)
     (state_holds state (state_taken (at_id objects id) state applies)) objects id
     firm
+firm_changed stamp objects (SetsGroups id c) applies rises firm =
+    dynamic_firm (behind_change c) (groups_hold c) objects id firm
 firm_changed stamp objects (Drops id) applies rises firm = record {
   tables = all_changed_at IsFirmObject IsFirmObject dropped (λ o h. h) (λ o h. h) objects id firm.tables;
   names = names_changed dropped (λ o. refl) (λ o live. absurd cc) objects id firm.names;
@@ -629,6 +631,7 @@ written_rises (StartsRun root tasks) good spelled = tasks_rise 0 tasks good.task
 written_rises (FinishesTask root task ending) good spelled = tt
 written_rises (CreatesDynamic c) good spelled = spelled_query c.query.text c.query.tree spelled
 written_rises (SetsDynamic id state) good spelled = tt
+written_rises (SetsGroups id c) good spelled = tt
 written_rises (PushesVersion c) good spelled = record {
   rows = all_map (IsPartition c.width) HasRisingRows (λ p is. is.rising) c.added good.added;
   some = all_map (IsPartition c.width) HasRows (λ p is. is.some) c.added good.added;

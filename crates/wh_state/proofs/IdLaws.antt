@@ -2,6 +2,7 @@
 --     map_at, map_with, map_put         what stands at an id, and another value there
 --     map_changed                       what stands there is changed
 --     at_spared, at_other, with_same    what stands at another id stays, and what is put in its own place
+--     changed_same                      a change that leaves everything
 --     map_last, last_more               the last element
 --     map_position, map_count           the first that passes a test, and how many pass
 use Rattle.std.proofs.Common.{◌≡◌, ℕ, zero, suc, ◌+◌, ◌<◌, Bool, cond, List, [], ◌∷◌, ◌++◌, map}
@@ -59,6 +60,14 @@ set_same (y ∷ ys) (suc place) x there = ap (λ (l : List _). y ∷ l) (set_sam
 pub with_same : {X : Type 0} (xs : List X) (id : ℕ) (x : X) → at_id xs id ≡ Some x → with_id xs id x ≡ xs
 with_same xs zero x there = refl
 with_same xs (suc place) x there = set_same xs place x there
+
+-- a change that leaves everything as it is
+pub changed_same : {X : Type 0} (f : X → X) → ((x : X) → f x ≡ x) → (xs : List X) (id : ℕ) → changed_at xs id f ≡ xs
+changed_same f same xs id = by_found (at_id xs id) refl
+  where
+    by_found : (found : Option _) → at_id xs id ≡ found → put_at xs id (option_map f found) ≡ xs
+    by_found None none = refl
+    by_found (Some x) there = ap (with_id xs id) (same x) ∙ with_same xs id x there
 
 -- what stands at another place
 get_spared : {X : Type 0} (xs : List X) (place other : ℕ) (y : X) → (other ≡ place → ⊥)

@@ -1,5 +1,5 @@
 -- What CREATE DYNAMIC TABLE keeps of its text spells, by itself, the query.
-use Rattle.std.proofs.Common.{◌≡◌, List, [], ℕ, sym, subst, IsUtf8}
+use Rattle.std.proofs.Common.{List, [], ℕ, sym, subst, IsUtf8}
 use Rattle.wh_ast.specs.declared.query.Query.{Query}
 use Rattle.wh_ast.specs.declared.statement.Statement.TheVariants as st
 use Rattle.wh_ast.specs.declared.statement.CreateDynamicTable.{CreateDynamicTable}

@@ -94,7 +94,7 @@ nothing_length = refl
 
 -- it applies at a later stamp, which is all that it moves
 nothing_applies : Applies first_stored (nothing 7)
-nothing_applies = record { later = omega arith; within = omega arith; changes = tt }
+nothing_applies = record { later = omega arith; within = omega arith; changes = tt; groups = refl }
 
 nothing_moved : (s : Stored) (stamp : ℕ) → applied s (nothing stamp) ≡ record s { last = stamp }
 nothing_moved s stamp = refl
@@ -160,6 +160,7 @@ both_apply = record {
   later = omega arith;
   within = omega arith;
   changes = (table_applies, ((refl, first_rows 1 (omega arith)), tt));
+  groups = (refl, (refl, refl));
 }
 
 -- at two stamps
@@ -167,8 +168,16 @@ one_by_one : Leads first_stored
     (creation ∷ insertion ∷ []) (filed 2 2 2 (version 1 [] ∷ version 2 (one_row 1 1 ∷ []) ∷ []))
 unfolding changed
 one_by_one = (
-  record { later = omega arith; within = omega arith; changes = (table_applies, tt) },
-  (record { later = omega arith; within = omega arith; changes = ((refl, first_rows 2 (omega arith)), tt) }, refl),
+  record { later = omega arith; within = omega arith; changes = (table_applies, tt); groups = (refl, refl) },
+  (
+    record {
+      later = omega arith;
+      within = omega arith;
+      changes = ((refl, first_rows 2 (omega arith)), tt);
+      groups = (refl, refl);
+    },
+    refl,
+  ),
 )
 
 -- ---- a partition that goes
@@ -205,6 +214,7 @@ row_change_applies = record {
     ),
     tt,
   );
+  groups = (refl, refl);
 }
 
 -- with the old partition still there, its row would stand twice
@@ -227,7 +237,8 @@ drop_bytes = refl
 
 drop_applies : Applies before (drop 2)
 unfolding changed
-drop_applies = record { later = omega arith; within = omega arith; changes = ((refl, tt), tt) }
+drop_applies =
+    record { later = omega arith; within = omega arith; changes = ((refl, tt), tt); groups = (refl, refl) }
 
 -- it keeps its id and what it holds, and frees its name
 dropped_table : (map (λ o. o.is_live) (applied before (drop 2)).objects ≡ false ∷ [])
@@ -271,6 +282,7 @@ replacement_applies = record {
   later = omega arith;
   within = omega arith;
   changes = ((refl, tt), (again_applies (applied before (drop 2)).objects refl refl refl, tt));
+  groups = (refl, (refl, refl));
 }
 
 name_taken : Applies before (record { stamp = 2; changes = CreatesTable again ∷ [] }) → ⊥

@@ -4,7 +4,9 @@
 --     columns_meant                                                               the columns of an object
 --     table_at_meant                                                              tables of a file
 --     stream_at_meant                                                             streams of a file
-use Rattle.std.proofs.Common.{◌∷◌, ◌≡◌, ℕ, ◌+◌, List, [], length, map, Option, Some, None, option_map, refl, ap, ◌∙◌}
+--     names_meant, kept_for_meant                                                 what a query sees, and its groups
+use Rattle.std.proofs.Common.{◌∷◌, ◌++◌, ◌≡◌, ℕ, ◌+◌, Bool, cond, List, [], length, map, Option, Some, None, option_map}
+use Rattle.std.proofs.Common.{refl, ap, ◌∙◌}
 use Rattle.std.specs.Option.{option_and_then, option_map_or}
 use Rattle.std.proofs.lemmas.List.{length-map}
 use Rattle.wh_state.specs.State.{task_in}
@@ -18,6 +20,11 @@ use Rattle.wh_state.specs.Stored.{StoredVersion, StoredTable, StoredKind, Stored
 use Rattle.wh_state.specs.Stored.{contents_meant, version_meant, table_meant, kind_meant, object_meant}
 use Rattle.wh_state.proofs.IdLaws.{map_at, map_with, map_last, map_position, map_count}
 use Rattle.wh_state.specs.Task.{Task, root_by}
+use Rattle.wh_naming.specs.Scope.{Named}
+use Rattle.wh_naming.specs.Select.{bound_query}
+use Rattle.wh_maintenance.specs.Above.{grouping}
+use Rattle.wh_state.specs.Dynamic.{Source, DynamicQuery}
+use Rattle.wh_state.specs.Bound.{source_kind, named_as, names_among, kept_first, kept_for}
 
 -- ---- objects
 
@@ -111,17 +118,47 @@ root_meant objects id [] = refl
 root_meant objects id (first ∷ others) =
     ap (λ (found : Option Task). option_map_or (λ t. t.root) found id) (task_at_meant objects first)
 
--- ---- columns
+-- ---- columns, and what a query sees
+
+kind_seen : (k : StoredKind) → source_kind (kind_meant k) ≡ source_kind k
+kind_seen (TableKind t) = refl
+kind_seen (StreamKind s) = refl
+kind_seen (TaskKind t) = refl
+kind_seen (DynamicKind d t) = refl
+
+columns_seen : (k : StoredKind) → columns_in (kind_meant k) ≡ columns_in k
+columns_seen (TableKind t) = refl
+columns_seen (StreamKind s) = refl
+columns_seen (TaskKind t) = refl
+columns_seen (DynamicKind d t) = refl
 
 pub columns_meant : (objects : List StoredObject) (id : ℕ)
     → columns_at (map object_meant objects) id ≡ columns_at objects id
 columns_meant objects id =
     found_meant (λ found. option_map_or (λ (o : Object). columns_in o.kind) found [])
-    (λ found. option_map_or (λ (o : StoredObject). columns_in o.kind) found []) refl (λ o. by_kind o.kind)
+    (λ found. option_map_or (λ (o : StoredObject). columns_in o.kind) found []) refl (λ o. columns_seen o.kind)
     objects id
+
+-- its query sees the same of what a file says and of what that means
+pub names_meant : (objects : List StoredObject) (sources : List Source)
+    → names_among (map object_meant objects) sources ≡ names_among objects sources
+names_meant objects [] = refl
+names_meant objects (s ∷ ss) =
+    ap (λ (found : Option Object). option_map_or (λ o. named_as s o ∷ []) found []
+    ++ names_among (map object_meant objects) ss) (at_id_meant objects s.id)
+    ∙ by_found (at_id objects s.id) (names_meant objects ss)
   where
-    by_kind : (k : StoredKind) → columns_in (kind_meant k) ≡ columns_in k
-    by_kind (TableKind t) = refl
-    by_kind (StreamKind s) = refl
-    by_kind (TaskKind t) = refl
-    by_kind (DynamicKind d t) = refl
+    by_found : (found : Option StoredObject)
+        → names_among (map object_meant objects) ss ≡ names_among objects ss
+        → option_map_or (λ o. named_as s o ∷ []) (option_map object_meant found) []
+        ++ names_among (map object_meant objects) ss
+        ≡ option_map_or (λ o. named_as s o ∷ []) found [] ++ names_among objects ss
+    by_found None rest = rest
+    by_found (Some o) rest = rw (kind_seen o.kind, columns_seen o.kind, rest) refl
+
+-- so its groups are kept alike
+pub kept_for_meant : (objects : List StoredObject) (is_incremental : Bool) (q : DynamicQuery)
+    → kept_for (map object_meant objects) is_incremental q ≡ kept_for objects is_incremental q
+kept_for_meant objects is_incremental q =
+    ap (λ (names : List Named). cond is_incremental
+    (option_map kept_first (grouping (bound_query q.tree names 0).query)) None) (names_meant objects q.sources)

@@ -21,8 +21,8 @@ use Rattle.wh_state.specs.State.{table_in}
 use Rattle.wh_state.specs.Edits.{is_among, without}
 use Rattle.wh_state.specs.Stored.{StoredTable, StoredKind, StoredObject, Stored, first_stored, standing}
 use Rattle.wh_state.specs.State.{on_dynamic}
-use Rattle.wh_state.specs.Dynamic.{Dynamic, with_dynamic_state}
-use Rattle.wh_state.specs.Commit.{CreatesDynamic, SetsDynamic, on_dynamic_stored}
+use Rattle.wh_state.specs.Dynamic.{Dynamic, with_dynamic_state, behind_change}
+use Rattle.wh_state.specs.Commit.{CreatesDynamic, SetsDynamic, SetsGroups, on_dynamic_stored}
 use Rattle.wh_state.specs.Commit.{CreatesTask, SetsTask, StartsRun, FinishesTask, change_as_text, on_task_stored}
 use Rattle.wh_state.specs.Commit.{VersionChange, Change, CreatesTable, Drops, PushesVersion, CreatesStream, SetsOffset}
 use Rattle.wh_state.specs.Commit.{Commit, pushed, pushed_object, offset_set, changed, all_changed}
@@ -223,6 +223,9 @@ orderly_changed stamp objects (CreatesDynamic c) good applies kept = all_more Ke
 orderly_changed stamp objects (SetsDynamic id state) good applies kept =
     all_changed_at KeptObject KeptObject (on_dynamic_stored (with_dynamic_state state)) (λ o h. h)
     (λ o h. dynamic_kept (with_dynamic_state state) o.kind h) objects id kept
+orderly_changed stamp objects (SetsGroups id c) good applies kept =
+    all_changed_at KeptObject KeptObject (on_dynamic_stored (behind_change c)) (λ o h. h)
+    (λ o h. dynamic_kept (behind_change c) o.kind h) objects id kept
 orderly_changed stamp objects (PushesVersion c) good applies kept = by_found (at_id objects c.id) refl applies
   where
     by_found : (found : Option StoredObject) → at_id objects c.id ≡ found → FitsObject found c

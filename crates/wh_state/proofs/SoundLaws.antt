@@ -6,9 +6,11 @@
 --     sound_done                   a commit of such acts at a later stamp
 use Rattle.std.proofs.Common.{◌≡◌, ℕ, zero, suc, ◌<◌, ◌≤◌, ◌⊎◌, inl, inr, Bool, List, [], ◌∷◌, ◌++◌, length, Option}
 use Rattle.std.proofs.Common.{Some, None}
-use Rattle.std.proofs.Common.{IsTrue, refl, sym, ap, subst, ◌∙◌, arith}
-use Rattle.std.specs.FinMap.{values}
+use Rattle.std.proofs.Common.{IsTrue, true, false, cond, option_map, refl, sym, ap, subst, ◌∙◌, arith}
+use Rattle.std.specs.FinMap.{values, empty}
+use Rattle.std.specs.List.{AllByRecursion}
 use Rattle.std.specs.Option.{IfSome, IsSomeAnd, option_and_then}
+use Rattle.std.proofs.lemmas.Option.{IfSome_then}
 use Rattle.wh_meaning.specs.Bag.{bag_of}
 use Rattle.wh_value.specs.Column.{Column}
 use Rattle.wh_naming.specs.Select.{BoundQuery}
@@ -17,21 +19,24 @@ use Rattle.wh_state.proofs.PlaceLaws.{changed_twice}
 use Rattle.wh_state.specs.State.{Table, Kind, TableKind, StreamKind, TaskKind, DynamicKind, Object, State}
 use Rattle.wh_state.specs.State.{first_state, at_rest, at_id, changed_at, on_dynamic, dynamic_in}
 use Rattle.wh_state.specs.State.{last_rows, empty_table, table_in}
-use Rattle.wh_state.specs.Dynamic.{DynamicQuery, DynamicState, Dynamic, new_dynamic, with_dynamic_state, ids_read}
+use Rattle.wh_state.specs.Dynamic.{DynamicQuery, DynamicState, Dynamic, Kept, GroupsChange, new_dynamic}
+use Rattle.wh_state.specs.Dynamic.{with_dynamic_state, with_groups, ids_read}
 use Rattle.wh_state.specs.Objects.{as_dynamic, as_table, table_at, dynamic_at}
-use Rattle.wh_state.specs.Bound.{query_bound}
-use Rattle.wh_state.specs.Moments.{evaluated_at, written_out, over_tables, StandsFor}
+use Rattle.wh_maintenance.specs.Above.{Grouping}
+use Rattle.wh_state.specs.Bound.{query_bound, grouping_bound, kept_first, kept_for}
+use Rattle.wh_state.specs.Moments.{bag_at, evaluated_at, groups_at, written_out, over_tables, StandsFor}
 use Rattle.wh_state.specs.Edits.{Edits}
 use Rattle.wh_state.specs.Act.{Act, EditsRows}
 use Rattle.wh_state.specs.Act.{MakesDynamic, PutsDynamic, RefreshesRows, edited_table, edited_kind}
+use Rattle.wh_state.specs.Act.{refreshed_kind, refreshed_object}
 use Rattle.wh_state.specs.Act.{edited_object, on_dynamic_object, acted, all_acted}
 use Rattle.wh_state.specs.Act.{done}
-use Rattle.wh_state.specs.Sound.{IsTimelyFor, IsOlder, IsSoundDynamic, IsSoundKind, IsSoundObject, Sound}
+use Rattle.wh_state.specs.Sound.{IsTimelyFor, IsOlder, IsKeptAs, IsSoundDynamic, IsSoundKind, IsSoundObject, Sound}
 use Rattle.wh_state.proofs.AllLaws.{all_map}
 use Rattle.wh_state.proofs.EvaluatedLaws.{IsNextKind, next_table, next_stream, next_task, next_dynamic, next_same}
 use Rattle.wh_state.proofs.EvaluatedLaws.{Follows}
-use Rattle.wh_state.proofs.EvaluatedLaws.{rows_kept, IsThere, bound_follows, StandFrom, StandAt, stand_from}
-use Rattle.wh_state.proofs.EvaluatedLaws.{evaluated_follows}
+use Rattle.wh_state.proofs.EvaluatedLaws.{rows_kept, IsThere, bound_follows, kept_follows, StandFrom, StandAt}
+use Rattle.wh_state.proofs.EvaluatedLaws.{stand_from, evaluated_same, evaluated_follows, groups_same, groups_follow}
 use Rattle.wh_state.proofs.EvaluatedLaws.{ids_read_hold}
 use Rattle.wh_state.proofs.SoundObjects.{IsKept, kept_of, all_sound, dynamic_there}
 use Rattle.wh_state.proofs.SoundObjects.{reads_there, AllBefore, moments_within, all_stand, written_follows}
@@ -98,7 +103,8 @@ all_older stamp objects kept id = by_found (at_id objects id) refl
 
 made_sound : (stamp : ℕ) (objects : List Object) (o : Object) (lag : ℕ) (is_incremental : Bool) (query : DynamicQuery)
     (columns : List Column) → MayMake objects is_incremental query → IsKept stamp objects
-    → IsSoundDynamic stamp (objects ++ o ∷ []) (new_dynamic lag is_incremental query) (empty_table columns stamp)
+    → IsSoundDynamic stamp (objects ++ o ∷ [])
+    (new_dynamic lag is_incremental (kept_for objects is_incremental query) query) (empty_table columns stamp)
 made_sound stamp objects o lag is_incremental query columns may kept = record {
   created = omega arith;
   older = all_map (λ id. id ≤ length objects) (IsOlder (objects ++ o ∷ []) stamp)
@@ -114,24 +120,38 @@ made_sound stamp objects o lag is_incremental query columns may kept = record {
   mode = λ is. subst (λ (b : BoundQuery). IsTrue (incrementable b.query))
       (sym (bound_follows (suc stamp) objects (objects ++ o ∷ []) (more_follow (suc stamp) objects o) query may.reads))
       (may.mode is);
+  kept = subst (λ (first : Option Kept). IsKeptAs first (kept_for objects is_incremental query))
+      (sym (kept_follows (suc stamp) objects (objects ++ o ∷ []) (more_follow (suc stamp) objects o) is_incremental
+      query may.reads)) (kept_as (kept_for objects is_incremental query));
   stands = λ some. absurd (omega (arith, some));
   none = λ zero. refl;
+  no_groups = λ zero. none_first is_incremental (grouping_bound objects query);
 }
+  where
+    kept_as : (kept : Option Kept) → IsKeptAs kept kept
+    kept_as None = refl
+    kept_as (Some k) = (refl, refl)
 
-reads_same : (lag : ℕ) (is_incremental : Bool) (query : DynamicQuery) (d : Dynamic)
-    → Some (new_dynamic lag is_incremental query) ≡ Some d → query ≡ d.query
-reads_same lag is_incremental query d is =
-    let same : new_dynamic lag is_incremental query ≡ d = cc in ap (λ (e : Dynamic). e.query) same
+    none_first : (is_incremental : Bool) (found : Option Grouping)
+        → IfSome (cond is_incremental (option_map kept_first found) None) (λ k. k.groups ≡ empty)
+    none_first false found = tt
+    none_first true None = tt
+    none_first true (Some g) = refl
+
+reads_same : (lag : ℕ) (is_incremental : Bool) (kept : Option Kept) (query : DynamicQuery) (d : Dynamic)
+    → Some (new_dynamic lag is_incremental kept query) ≡ Some d → query ≡ d.query
+reads_same lag is_incremental kept query d is =
+    let same : new_dynamic lag is_incremental kept query ≡ d = cc in ap (λ (e : Dynamic). e.query) same
 
 -- ---- another state of a dynamic table
 
--- it has stood for a moment, and for a later one its query gives the same
+-- it has stood for a moment, and for a later one what it reads has the same rows
 pub record IsNothingNew (stamp : ℕ) (objects : List Object) (d : Dynamic) (moment : ℕ) : Type 0 where
   pub some : 0 < d.state.moment
   pub later : d.state.moment ≤ moment
   pub within : moment ≤ stamp
   pub sources : StandAt moment objects (ids_read d.query)
-  pub same : evaluated_at objects moment d ≡ evaluated_at objects d.state.moment d
+  pub same : AllByRecursion (λ id. bag_at objects moment id ≡ bag_at objects d.state.moment id) (ids_read d.query)
 
 -- its moment stays, or nothing is new for another
 pub record MayPut (stamp : ℕ) (objects : List Object) (state : DynamicState) (d : Dynamic) : Type 0 where
@@ -160,23 +180,35 @@ put_sound : (stamp : ℕ) (objects all : List Object) (state : DynamicState) (d 
     → IsKept stamp objects → MayPut stamp objects state d → IsThere objects d.query → Follows (suc stamp) objects all
     → IsSoundDynamic stamp all d t
     → IsSoundDynamic stamp all (with_dynamic_state state d) t
-unfolding evaluated_at written_out
+unfolding evaluated_at groups_at written_out
 put_sound stamp objects all state d t kept may there follows sound = by_moment may.moment
   where
     stand : IsNothingNew stamp objects d state.moment → StandFrom state.moment objects (ids_read d.query)
     stand is = stand_from state.moment objects (ids_read d.query) is.sources
 
-    -- what it gave before
-    before : IsNothingNew stamp objects d state.moment
-        → evaluated_at objects d.state.moment d ≡ Some (bag_of (values (last_rows t)))
-    before is =
-        sym (evaluated_follows (suc stamp) d.state.moment objects all follows d there (omega (arith, sound.moment))
-        (stand_earlier objects d.state.moment state.moment is.later (ids_read d.query) (stand is)))
+    stand_before : IsNothingNew stamp objects d state.moment → StandFrom d.state.moment objects (ids_read d.query)
+    stand_before is = stand_earlier objects d.state.moment state.moment is.later (ids_read d.query) (stand is)
+
+    -- what it gives is what it gave before
+    gives : IsNothingNew stamp objects d state.moment
+        → evaluated_at objects state.moment d ≡ Some (bag_of (values (last_rows t)))
+    gives is =
+        evaluated_same objects objects d.state.moment state.moment d refl is.same
+        ∙ sym (evaluated_follows (suc stamp) d.state.moment objects all follows d there (omega (arith, sound.moment))
+        (stand_before is))
         ∙ (sound.stands is.some).rows
+
+    groups_are : IsNothingNew stamp objects d state.moment
+        → groups_at all state.moment d ≡ groups_at all d.state.moment d
+    groups_are is =
+        groups_follow (suc stamp) state.moment objects all follows d there (omega (arith, is.within)) (stand is)
+        ∙ groups_same objects objects d.state.moment state.moment d refl is.same
+        ∙ sym (groups_follow (suc stamp) d.state.moment objects all follows d there (omega (arith, sound.moment))
+        (stand_before is))
 
     with_moment : state.moment ≤ stamp → (d.state.moment ≤ state.moment)
         → (0 < state.moment → StandsFor all (with_dynamic_state state d) t)
-        → (state.moment ≡ 0 → t.versions ≡ []) → IsSoundDynamic stamp all (with_dynamic_state state d) t
+        → (state.moment ≡ 0 → d.state.moment ≡ 0) → IsSoundDynamic stamp all (with_dynamic_state state d) t
     with_moment within later stands none = record {
       created = sound.created;
       older = sound.older;
@@ -189,8 +221,10 @@ put_sound stamp objects all state d t kept may there follows sound = by_moment m
       below = sound.below;
       none_returns = sound.none_returns;
       mode = sound.mode;
+      kept = sound.kept;
       stands = stands;
-      none = none;
+      none = λ zero. sound.none (none zero);
+      no_groups = λ zero. sound.no_groups (none zero);
     }
 
     by_moment : (state.moment ≡ d.state.moment) ⊎ IsNothingNew stamp objects d state.moment
@@ -198,21 +232,23 @@ put_sound stamp objects all state d t kept may there follows sound = by_moment m
     by_moment (inl same) = with_moment (omega (arith, same, sound.moment)) (omega (arith, same))
         (λ some. let was = sound.stands (omega (arith, same, some)) in record {
           rows = ap (λ (time : ℕ). evaluated_at all time d) same ∙ was.rows;
+          groups = IfSome_then d.kept was.groups (λ k is. ap (λ (time : ℕ). groups_at all time d) same ∙ is);
           sources = subst (λ (time : ℕ). StandFrom time all (ids_read d.query)) (sym same) was.sources;
           whole = λ layers enough.
               ap (λ (time : ℕ). written_out (over_tables layers all time) all d) same ∙ was.whole layers enough;
         })
-        (λ zero. sound.none (omega (arith, same, zero)))
+        (λ zero. omega (arith, same, zero))
     by_moment (inr is) = with_moment is.within is.later (λ some. record {
       rows = evaluated_follows (suc stamp) state.moment objects all follows d there (omega (arith, is.within))
-          (stand is) ∙ is.same ∙ before is;
+          (stand is) ∙ gives is;
+      groups = IfSome_then d.kept (sound.stands is.some).groups (λ k were. groups_are is ∙ were);
       sources = all_stand (suc stamp) state.moment objects all follows d there (stand is);
       whole = λ layers enough.
           written_follows (suc stamp) state.moment objects all follows kept.earlier (omega (arith, is.within)) layers d
           there
           ∙ written_evaluated stamp state.moment layers objects kept some d is.sources enough
-          ∙ is.same ∙ before is;
-    }) (λ zero. absurd (omega (arith, zero, is.some, is.later)))
+          ∙ gives is;
+    }) (λ zero. omega (arith, zero, is.later))
 
 put_kept : (stamp : ℕ) (objects : List Object) (id : ℕ) (state : DynamicState)
     → IfSome (dynamic_at objects id) (MayPut stamp objects state) → IsKept stamp objects
@@ -253,40 +289,42 @@ put_kept stamp objects id state may kept =
 -- ---- a refresh
 
 -- of a dynamic table
-abbrev pub MayRefreshKind : ℕ → List Object → ℕ → Edits → DynamicState → Kind → Type 0
-MayRefreshKind stamp objects moment e state (DynamicKind d t) = IsRefreshed stamp objects d t moment e state
-MayRefreshKind stamp objects moment e state _ = ⊥
+abbrev pub MayRefreshKind : ℕ → List Object → ℕ → Edits → Option GroupsChange → DynamicState → Kind → Type 0
+MayRefreshKind stamp objects moment e c state (DynamicKind d t) = IsRefreshed stamp objects d t moment e c state
+MayRefreshKind stamp objects moment e c state _ = ⊥
 
-abbrev pub MayRefresh : ℕ → List Object → ℕ → ℕ → Edits → DynamicState → Type 0
-MayRefresh stamp objects id moment e state =
-    IsSomeAnd (at_id objects id) (λ o. MayRefreshKind stamp objects moment e state o.kind)
+abbrev pub MayRefresh : ℕ → List Object → ℕ → ℕ → Edits → Option GroupsChange → DynamicState → Type 0
+MayRefresh stamp objects id moment e c state =
+    IsSomeAnd (at_id objects id) (λ o. MayRefreshKind stamp objects moment e c state o.kind)
 
--- with its next version, and in another state
-abbrev refreshed_object : ℕ → ℕ → Edits → DynamicState → Object → Object
-refreshed_object stamp moment e state o =
-    on_dynamic_object (with_dynamic_state state) (edited_object stamp moment e o)
+-- with its next version and its groups, and in another state
+abbrev brought_object : ℕ → ℕ → Edits → Option GroupsChange → DynamicState → Object → Object
+brought_object stamp moment e c state o =
+    on_dynamic_object (with_dynamic_state state) (refreshed_object stamp moment e c o)
 
 -- among what is there after it
-refresh_sound : (stamp : ℕ) (objects all : List Object) (moment : ℕ) (e : Edits) (state : DynamicState) (d : Dynamic)
-    (t : Table) → IsKept stamp objects → IsRefreshed stamp objects d t moment e state → IsThere objects d.query
+refresh_sound : (stamp : ℕ) (objects all : List Object) (moment : ℕ) (e : Edits) (c : Option GroupsChange)
+    (state : DynamicState) (d : Dynamic) (t : Table) → IsKept stamp objects
+    → IsRefreshed stamp objects d t moment e c state → IsThere objects d.query
     → Follows (suc stamp) objects all → IsSoundDynamic stamp all d t
-    → IsSoundDynamic stamp all (with_dynamic_state state d) (edited_table stamp moment e t)
-refresh_sound stamp objects all moment e state d t kept is there follows was =
+    → IsSoundDynamic stamp all (with_dynamic_state state (with_groups c d)) (edited_table stamp moment e t)
+refresh_sound stamp objects all moment e c state d t kept is there follows was =
     let stand : StandFrom moment objects (ids_read d.query) =
     stand_from moment objects (ids_read d.query) is.sources in
-    refreshed_sound stamp objects all d t moment e state is
+    refreshed_sound stamp objects all d t moment e c state is
     (all_stand (suc stamp) moment objects all follows d there stand)
     (evaluated_follows (suc stamp) moment objects all follows d there (omega (arith, is.within)) stand)
+    (groups_follow (suc stamp) moment objects all follows d there (omega (arith, is.within)) stand)
     (λ layers enough.
     written_follows (suc stamp) moment objects all follows kept.earlier (omega (arith, is.within)) layers d there
     ∙ written_evaluated stamp moment layers objects kept (omega (arith, is.later)) d is.sources enough) was
 
-refreshed_kept : (stamp : ℕ) (objects : List Object) (id moment : ℕ) (e : Edits) (state : DynamicState)
-    → MayRefresh stamp objects id moment e state → IsKept stamp objects
-    → IsKept stamp (acted stamp (acted stamp objects (RefreshesRows id moment e)) (PutsDynamic id state))
+refreshed_kept : (stamp : ℕ) (objects : List Object) (id moment : ℕ) (e : Edits) (c : Option GroupsChange)
+    (state : DynamicState) → MayRefresh stamp objects id moment e c state → IsKept stamp objects
+    → IsKept stamp (acted stamp (acted stamp objects (RefreshesRows id moment e c)) (PutsDynamic id state))
 unfolding edited_table
-refreshed_kept stamp objects id moment e state may kept =
-    subst (IsKept stamp) (sym (changed_twice (edited_object stamp moment e)
+refreshed_kept stamp objects id moment e c state may kept =
+    subst (IsKept stamp) (sym (changed_twice (refreshed_object stamp moment e c)
     (on_dynamic_object (with_dynamic_state state)) objects id))
     (changed_kept (suc stamp) stamp objects id f kept (moments_within stamp objects kept)
     (λ o there. next o.kind (may_at o there))
@@ -295,30 +333,34 @@ refreshed_kept stamp objects id moment e state may kept =
     id o there)))
   where
     f : Object → Object
-    f = refreshed_object stamp moment e state
+    f = brought_object stamp moment e c state
 
-    may_at : (o : Object) → at_id objects id ≡ Some o → MayRefreshKind stamp objects moment e state o.kind
+    may_at : (o : Object) → at_id objects id ≡ Some o → MayRefreshKind stamp objects moment e c state o.kind
     may_at o there = subst (λ (found : Option Object).
-        IsSomeAnd found (λ o. MayRefreshKind stamp objects moment e state o.kind)) there may
+        IsSomeAnd found (λ o. MayRefreshKind stamp objects moment e c state o.kind)) there may
 
-    next : (k : Kind) → MayRefreshKind stamp objects moment e state k
-        → IsNextKind (suc stamp) k (on_dynamic (with_dynamic_state state) (edited_kind stamp moment e k))
+    same_query : (c : Option GroupsChange) (d : Dynamic) → (with_groups c d).query ≡ d.query
+    same_query None d = refl
+    same_query (Some c) d = refl
+
+    next : (k : Kind) → MayRefreshKind stamp objects moment e c state k
+        → IsNextKind (suc stamp) k (on_dynamic (with_dynamic_state state) (refreshed_kind stamp moment e c k))
     next (TableKind t) may = absurd may
     next (StreamKind s) may = absurd may
     next (TaskKind t) may = absurd may
-    next (DynamicKind d t) may = next_dynamic refl refl refl (omega (arith, may.later, may.brought))
+    next (DynamicKind d t) may = next_dynamic (same_query c d) refl refl (omega (arith, may.later, may.brought))
         (λ time up. rows_kept stamp moment e t time (omega (arith, up, may.later)))
 
     sound : Follows (suc stamp) objects (changed_at objects id f) → (o : Object) → at_id objects id ≡ Some o
-        → (k : Kind) → o.kind ≡ k → MayRefreshKind stamp objects moment e state k
+        → (k : Kind) → o.kind ≡ k → MayRefreshKind stamp objects moment e c state k
         → IsSoundKind stamp (changed_at objects id f) k
         → IsSoundKind stamp (changed_at objects id f)
-        (on_dynamic (with_dynamic_state state) (edited_kind stamp moment e k))
+        (on_dynamic (with_dynamic_state state) (refreshed_kind stamp moment e c k))
     sound follows o there (TableKind t) is may was = absurd may
     sound follows o there (StreamKind s) is may was = absurd may
     sound follows o there (TaskKind t) is may was = absurd may
     sound follows o there (DynamicKind d t) is may was =
-        refresh_sound stamp objects (changed_at objects id f) moment e state d t kept may
+        refresh_sound stamp objects (changed_at objects id f) moment e c state d t kept may
         (reads_there objects id d kept.earlier (dynamic_there objects id o d t there is)) follows was
 
 -- ---- acts, one after the other
@@ -338,10 +380,10 @@ pub data AreKeeping (stamp : ℕ) : List Object → List Act → Type 0 where
       → IfSome (dynamic_at objects id) (MayPut stamp objects state)
       → AreKeeping stamp (acted stamp objects (PutsDynamic id state)) acts
       → AreKeeping stamp objects (PutsDynamic id state ∷ acts)
-  refresh_acts : {objects : List Object} {id moment : ℕ} {e : Edits} {state : DynamicState} {acts : List Act}
-      → MayRefresh stamp objects id moment e state
-      → AreKeeping stamp (acted stamp (acted stamp objects (RefreshesRows id moment e)) (PutsDynamic id state)) acts
-      → AreKeeping stamp objects (RefreshesRows id moment e ∷ PutsDynamic id state ∷ acts)
+  refresh_acts : {objects : List Object} {id moment : ℕ} {e : Edits} {c : Option GroupsChange} {state : DynamicState}
+      {acts : List Act} → MayRefresh stamp objects id moment e c state
+      → AreKeeping stamp (acted stamp (acted stamp objects (RefreshesRows id moment e c)) (PutsDynamic id state)) acts
+      → AreKeeping stamp objects (RefreshesRows id moment e c ∷ PutsDynamic id state ∷ acts)
 
 pub acts_kept : (stamp : ℕ) (objects : List Object) (acts : List Act) → AreKeeping stamp objects acts
     → IsKept stamp objects
@@ -354,12 +396,12 @@ acts_kept stamp objects (EditsRows id e ∷ acts) (edit_act may rest) kept =
 acts_kept stamp objects (MakesDynamic name lag is_incremental query columns ∷ acts) (make_act may rest) kept =
     acts_kept stamp (acted stamp objects (MakesDynamic name lag is_incremental query columns)) acts rest
     (more_kept stamp objects _ kept (made_sound stamp objects _ lag is_incremental query columns may kept)
-    (λ d is. subst (λ (q : DynamicQuery). IsThere objects q) (reads_same lag is_incremental query d is) may.reads))
+    (λ d is. subst (λ (q : DynamicQuery). IsThere objects q) (reads_same lag is_incremental _ query d is) may.reads))
 acts_kept stamp objects (PutsDynamic id state ∷ acts) (put_act may rest) kept =
     acts_kept stamp (acted stamp objects (PutsDynamic id state)) acts rest (put_kept stamp objects id state may kept)
-acts_kept stamp objects all (refresh_acts {id} {moment} {e} {state} {acts} may rest) kept =
-    acts_kept stamp (acted stamp (acted stamp objects (RefreshesRows id moment e)) (PutsDynamic id state)) acts rest
-    (refreshed_kept stamp objects id moment e state may kept)
+acts_kept stamp objects all (refresh_acts {id} {moment} {e} {c} {state} {acts} may rest) kept =
+    acts_kept stamp (acted stamp (acted stamp objects (RefreshesRows id moment e c)) (PutsDynamic id state)) acts rest
+    (refreshed_kept stamp objects id moment e c state may kept)
 
 pub keeping_append : (stamp : ℕ) (objects : List Object) (xs ys : List Act) → AreKeeping stamp objects xs
     → AreKeeping stamp (all_acted stamp objects xs) ys
@@ -374,9 +416,9 @@ keeping_append stamp objects (MakesDynamic name lag is_incremental query columns
     ys rest others)
 keeping_append stamp objects (PutsDynamic id state ∷ acts) ys (put_act may rest) others =
     put_act may (keeping_append stamp (acted stamp objects (PutsDynamic id state)) acts ys rest others)
-keeping_append stamp objects all ys (refresh_acts {id} {moment} {e} {state} {acts} may rest) others =
+keeping_append stamp objects all ys (refresh_acts {id} {moment} {e} {c} {state} {acts} may rest) others =
     refresh_acts may (keeping_append stamp
-    (acted stamp (acted stamp objects (RefreshesRows id moment e)) (PutsDynamic id state)) acts ys rest others)
+    (acted stamp (acted stamp objects (RefreshesRows id moment e c)) (PutsDynamic id state)) acts ys rest others)
 
 -- ---- states
 
@@ -409,8 +451,10 @@ kind_later committed stamp later all (DynamicKind d t) sound = record {
   below = sound.below;
   none_returns = sound.none_returns;
   mode = sound.mode;
+  kept = sound.kept;
   stands = sound.stands;
   none = sound.none;
+  no_groups = sound.no_groups;
 }
 
 -- the objects of a sound state at a later stamp

@@ -10,23 +10,26 @@ use Rattle.std.proofs.Common.{None}
 use Rattle.std.proofs.Common.{option_map, refl, sym, ap, subst, ◌∙◌, arith, IsTrue}
 use Rattle.std.specs.List.{AllByRecursion}
 use Rattle.std.specs.Option.{IsSomeAnd, IfSome, option_and_then, option_map_or}
+use Rattle.std.proofs.lemmas.Option.{IfSome_then}
 use Rattle.std.specs.FinMap.{values}
 use Rattle.wh_meaning.specs.Bag.{Bag, bag_of, no_rows}
 use Rattle.wh_naming.specs.Select.{BoundQuery}
 use Rattle.wh_algebra.specs.Increments.{incrementable}
 use Rattle.wh_state.specs.State.{Table, Kind, TableKind, StreamKind, TaskKind, DynamicKind, Object, at_id, changed_at}
 use Rattle.wh_state.specs.State.{Rows, rows_at, table_in, dynamic_in, put_at}
-use Rattle.wh_state.specs.Dynamic.{DynamicQuery, Dynamic, ids_read}
+use Rattle.wh_state.specs.Dynamic.{DynamicQuery, Kept, Dynamic, ids_read}
 use Rattle.wh_state.specs.Objects.{as_table, as_dynamic, dynamic_at}
 use Rattle.wh_state.specs.Moments.{bag_at, evaluated_at, written_out, given_by, over_tables}
-use Rattle.wh_state.specs.Sound.{IsTimelyFor, IsOlder, IsSoundDynamic, IsSoundKind, IsSoundObject, ReadsEarlier}
+use Rattle.wh_state.specs.Sound.{IsTimelyFor, IsOlder, IsKeptAs, IsSoundDynamic, IsSoundKind, IsSoundObject}
+use Rattle.wh_state.specs.Sound.{ReadsEarlier}
 use Rattle.wh_state.proofs.AllLaws.{all_map, all_both, all_at}
 use Rattle.wh_state.proofs.IdLaws.{at_spared}
 use Rattle.wh_state.proofs.FoundLaws.{at_same, same_or_not}
 use Rattle.wh_state.proofs.EvaluatedLaws.{IsNextKind, next_table, next_stream, next_task, next_dynamic, IsNextAt}
 use Rattle.wh_state.proofs.EvaluatedLaws.{Follows}
 use Rattle.wh_state.proofs.EvaluatedLaws.{StandAt, written_same, written_is, rows_last}
-use Rattle.wh_state.proofs.EvaluatedLaws.{next_at, IsThere, bound_follows, ids_read_hold, StandFrom, evaluated_follows}
+use Rattle.wh_state.proofs.EvaluatedLaws.{next_at, IsThere, bound_follows, kept_follows, ids_read_hold, StandFrom}
+use Rattle.wh_state.proofs.EvaluatedLaws.{evaluated_follows, groups_follow}
 use Rattle.wh_state.proofs.PlaceLaws.{at_within, at_front, at_either, all_from}
 
 -- ---- objects one by one
@@ -271,15 +274,20 @@ dynamic_follows before stamp old new follows earlier d t there within sound = re
   none_returns = sound.none_returns;
   mode = λ is. subst (λ (b : BoundQuery). IsTrue (incrementable b.query))
       (sym (bound_follows before old new follows d.query there)) (sound.mode is);
+  kept = subst (λ (first : Option Kept). IsKeptAs first d.kept)
+      (sym (kept_follows before old new follows d.is_incremental d.query there)) sound.kept;
   stands = λ some. record {
     rows = evaluated_follows before d.state.moment old new follows d there within (sound.stands some).sources
         ∙ (sound.stands some).rows;
+    groups = IfSome_then d.kept (sound.stands some).groups (λ k is.
+        groups_follow before d.state.moment old new follows d there within (sound.stands some).sources ∙ is);
     sources = all_stand before d.state.moment old new follows d there (sound.stands some).sources;
     whole = λ layers enough.
         written_follows before d.state.moment old new follows earlier within layers d there
         ∙ (sound.stands some).whole layers enough;
   };
   none = sound.none;
+  no_groups = sound.no_groups;
 }
 
 -- an object that stays as it is

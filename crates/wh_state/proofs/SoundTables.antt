@@ -5,20 +5,25 @@
 --     edited_sound                  a table with a version more
 --     IsRefreshed, refreshed_sound  a dynamic table with a version more, that has the rows of its query for a moment
 use Rattle.std.proofs.Common.{◌≡◌, ℕ, ◌+◌, ◌<◌, ◌≤◌, ◌⊎◌, inl, inr, ◌++◌, ◌∷◌, [], List, length, Option, Some, None}
-use Rattle.std.proofs.Common.{refl, sym, ap, subst, ◌∙◌, arith}
+use Rattle.std.proofs.Common.{option_map, refl, sym, ap, subst, ◌∙◌, arith}
 use Rattle.std.specs.List.{AllByRecursion}
 use Rattle.std.specs.FinMap.{get, values}
+use Rattle.std.specs.Option.{IfSome}
+use Rattle.std.proofs.lemmas.Option.{IfSome_then}
 use Rattle.std.proofs.lemmas.Bool.{cases_lt}
 use Rattle.wh_value.specs.Value.{Row}
 use Rattle.wh_value.specs.Column.{Column}
 use Rattle.wh_meaning.specs.Bag.{bag_of}
 use Rattle.wh_state.specs.State.{Version, Table, Object, Rows, nothing_held, new_table, version_for, last_rows}
 use Rattle.wh_state.specs.State.{content_in}
-use Rattle.wh_state.specs.Dynamic.{DynamicState, Dynamic, with_dynamic_state, ids_read}
+use Rattle.wh_maintenance.specs.Entries.{GroupEntry}
+use Rattle.wh_state.specs.Dynamic.{DynamicState, Dynamic, Kept, GroupsChange, behind_entries, with_dynamic_state}
+use Rattle.wh_state.specs.Dynamic.{with_groups, ids_read}
+use Rattle.wh_state.specs.Bound.{kept_for}
 use Rattle.wh_state.specs.Edits.{Edits, rows_after}
-use Rattle.wh_state.specs.Moments.{evaluated_at, written_out, over_tables}
+use Rattle.wh_state.specs.Moments.{evaluated_at, groups_at, written_out, over_tables}
 use Rattle.wh_state.specs.Act.{next_contents, edited_table}
-use Rattle.wh_state.specs.Sound.{IsTimely, IsTimelyFor, IsBelow, IsSoundTable, IsSoundDynamic}
+use Rattle.wh_state.specs.Sound.{IsTimely, IsTimelyFor, IsBelow, IsSoundTable, IsKeptAs, IsSoundDynamic}
 use Rattle.wh_state.proofs.AllLaws.{all_map, all_both, all_more}
 use Rattle.wh_state.proofs.IdLaws.{last_more}
 use Rattle.wh_state.proofs.VersionLaws.{still_lacks, empty_lacks, last_below, IsBefore, rise_more, none_more}
@@ -108,29 +113,43 @@ edited_sound stamp e t fresh sound =
 -- ---- a refresh
 
 -- to a later moment, for which the dynamic tables that it reads stand: the version more has the rows that its query
--- gives then
+-- gives then, and the groups that are kept are its groups then
 pub record IsRefreshed (stamp : ℕ) (objects : List Object) (d : Dynamic) (t : Table) (moment : ℕ) (e : Edits)
-    (state : DynamicState) : Type 0 where
+    (c : Option GroupsChange) (state : DynamicState) : Type 0 where
   pub fresh : IsFresh stamp t
   pub later : d.state.moment < moment
   pub within : moment ≤ stamp
   pub sources : StandAt moment objects (ids_read d.query)
   pub rows : evaluated_at objects moment d ≡ Some (bag_of (values (rows_after t.next_row e (last_rows t))))
+  pub groups : IfSome (with_groups c d).kept (λ k. groups_at objects moment d ≡ Some k.groups)
   pub brought : state.moment ≡ moment
   pub tried : state.tried ≤ stamp
 
+kept_behind : (entries : List GroupEntry) (first found : Option Kept) → IsKeptAs first found
+    → IsKeptAs first (option_map (behind_entries entries) found)
+kept_behind entries None found is = ap (option_map (behind_entries entries)) is
+kept_behind entries (Some first) None is = absurd is
+kept_behind entries (Some first) (Some k) is = is
+
 -- among what is there behind it
 pub refreshed_sound : (stamp : ℕ) (old objects : List Object) (d : Dynamic) (t : Table) (moment : ℕ) (e : Edits)
-    (state : DynamicState) → IsRefreshed stamp old d t moment e state → StandFrom moment objects (ids_read d.query)
-    → evaluated_at objects moment d ≡ evaluated_at old moment d
+    (c : Option GroupsChange) (state : DynamicState) → IsRefreshed stamp old d t moment e c state
+    → StandFrom moment objects (ids_read d.query) → evaluated_at objects moment d ≡ evaluated_at old moment d
+    → groups_at objects moment d ≡ groups_at old moment d
     → ((layers : ℕ) → AllByRecursion (λ id. id < layers) (ids_read d.query)
     → written_out (over_tables layers objects moment) objects d ≡ evaluated_at old moment d)
     → IsSoundDynamic stamp objects d t
-    → IsSoundDynamic stamp objects (with_dynamic_state state d) (edited_table stamp moment e t)
-unfolding edited_table evaluated_at written_out
-refreshed_sound stamp old objects d t moment e state is stand same whole sound =
-    let v : Version = next_version stamp moment e t in
-    record {
+    → IsSoundDynamic stamp objects (with_dynamic_state state (with_groups c d)) (edited_table stamp moment e t)
+unfolding edited_table evaluated_at groups_at written_out
+refreshed_sound stamp old objects d t moment e c state is stand same alike whole sound = by_change c is.groups
+  where
+    v : Version
+    v = next_version stamp moment e t
+
+    with_kept : (kept : Option Kept) → IsKeptAs (kept_for objects d.is_incremental d.query) kept
+        → IfSome kept (λ k. groups_at old moment d ≡ Some k.groups)
+        → IsSoundDynamic stamp objects (record d { state = state; kept = kept }) (edited_table stamp moment e t)
+    with_kept kept are groups = record {
       created = sound.created;
       older = sound.older;
       moment = omega (arith, is.brought, is.within);
@@ -149,9 +168,12 @@ refreshed_sound stamp old objects d t moment e state is stand same whole sound =
       none_returns = none_more t.next_row t.versions v sound.below sound.none_returns
           (λ number before lacks. still_lacks t.next_row e (last_rows t) number (inl before) lacks);
       mode = sound.mode;
+      kept = are;
       stands = λ some. record {
         rows = ap (λ (time : ℕ). evaluated_at objects time d) is.brought ∙ same ∙ is.rows
             ∙ ap (λ (held : Rows). Some (bag_of (values held))) (sym (last_after stamp moment e t));
+        groups = IfSome_then kept groups (λ k their.
+            ap (λ (time : ℕ). groups_at objects time d) is.brought ∙ alike ∙ their);
         sources = subst (λ (time : ℕ). StandFrom time objects (ids_read d.query)) (sym is.brought) stand;
         whole = λ layers enough.
             ap (λ (time : ℕ). written_out (over_tables layers objects time) objects d) is.brought
@@ -159,4 +181,11 @@ refreshed_sound stamp old objects d t moment e state is stand same whole sound =
             ∙ ap (λ (held : Rows). Some (bag_of (values held))) (sym (last_after stamp moment e t));
       };
       none = λ zero. absurd (omega (arith, zero, is.brought, is.later));
+      no_groups = λ zero. absurd (omega (arith, zero, is.brought, is.later));
     }
+
+    by_change : (c : Option GroupsChange) → IfSome (with_groups c d).kept (λ k. groups_at old moment d ≡ Some k.groups)
+        → IsSoundDynamic stamp objects (with_dynamic_state state (with_groups c d)) (edited_table stamp moment e t)
+    by_change None groups = with_kept d.kept sound.kept groups
+    by_change (Some c) groups = with_kept (option_map (behind_entries c.entries) d.kept)
+        (kept_behind c.entries (kept_for objects d.is_incremental d.query) d.kept sound.kept) groups

@@ -15,11 +15,11 @@ use Rattle.wh_state.specs.State.{TableKind, StreamKind, TaskKind, DynamicKind, a
 use Rattle.wh_state.specs.Edits.{Edits}
 use Rattle.wh_state.specs.Act.{Act, MakesTable, DropsObject, EditsRows, MakesStream, MovesOffset, MakesTask, PutsTask}
 use Rattle.wh_state.specs.Act.{BeginsRun, EndsTask, MakesDynamic, PutsDynamic, RefreshesRows}
-use Rattle.wh_state.specs.Dynamic.{IsQuerySpelled}
+use Rattle.wh_state.specs.Dynamic.{IsQuerySpelled, GroupsChange}
 use Rattle.wh_state.specs.Stored.{StoredKind, StoredObject}
 use Rattle.wh_state.specs.Commit.{Change, all_changed}
 use Rattle.wh_state.specs.Spelling as spelling
-use Rattle.wh_state.specs.Written.{version_written_to, act_written, written}
+use Rattle.wh_state.specs.Written.{version_written_to, groups_written, act_written, written}
 use Rattle.wh_state.proofs.AllLaws.{all_append}
 
 abbrev pub HasTokensOf : Dml → Type 0
@@ -74,7 +74,13 @@ act_understood stamp objects (BeginsRun root tasks) is = (tt, tt)
 act_understood stamp objects (EndsTask root task ending) is = (tt, tt)
 act_understood stamp objects (MakesDynamic name lag is_incremental query columns) is = (is, tt)
 act_understood stamp objects (PutsDynamic id state) is = (tt, tt)
-act_understood stamp objects (RefreshesRows id moment e) is = edit_understood moment id e (at_id objects id)
+act_understood stamp objects (RefreshesRows id moment e c) is =
+    all_append IsUnderstoodChange (version_written_to moment id e (at_id objects id)) (groups_written id c)
+    (edit_understood moment id e (at_id objects id)) (by_groups c)
+  where
+    by_groups : (c : Option GroupsChange) → AllByRecursion IsUnderstoodChange (groups_written id c)
+    by_groups None = tt
+    by_groups (Some c) = (tt, tt)
 
 pub understood_written : (stamp : ℕ) (objects : List StoredObject) (acts : List Act) → AllByRecursion IsUnderstood acts
     → AllByRecursion IsUnderstoodChange (written stamp objects acts)

@@ -22,7 +22,7 @@ IsStill stamp (MovesOffset id offset) = offset ≤ stamp
 IsStill stamp (EditsRows id e) = ⊥
 IsStill stamp (MakesDynamic name lag is_incremental query columns) = ⊥
 IsStill stamp (PutsDynamic id state) = ⊥
-IsStill stamp (RefreshesRows id moment e) = ⊥
+IsStill stamp (RefreshesRows id moment e c) = ⊥
 IsStill stamp _ = Unit {0}
 
 -- one object, whose rows stay and which keeps the state that it has as a dynamic table
@@ -76,7 +76,7 @@ pub still_kept : (stamp : ℕ) (objects : List Object) (act : Act) → IsStill s
 still_kept stamp objects (EditsRows id e) still kept = absurd still
 still_kept stamp objects (MakesDynamic name lag is_incremental query columns) still kept = absurd still
 still_kept stamp objects (PutsDynamic id state) still kept = absurd still
-still_kept stamp objects (RefreshesRows id moment e) still kept = absurd still
+still_kept stamp objects (RefreshesRows id moment e c) still kept = absurd still
 still_kept stamp objects (MakesTable name columns retention) still kept =
     more_kept stamp objects _ kept (new_sound columns retention stamp) (λ d is. absurd cc)
 still_kept stamp objects (MakesStream name source is_append_only) still kept =

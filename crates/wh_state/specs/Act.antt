@@ -2,14 +2,16 @@
 --     Act          a change of the state
 --     acted        what an act does to the objects at a stamp; all_acted, what several do
 --     done         the state after a commit of acts
-use Rattle.std.specs.Prelude.{ℕ, ◌+◌, Bool, List, [], ◌∷◌, ◌++◌, length}
+use Rattle.std.specs.Prelude.{ℕ, ◌+◌, Bool, List, [], ◌∷◌, ◌++◌, length, Option}
 use Rattle.wh_value.specs.Column.{Column}
 use Rattle.wh_frame.specs.Partition.{Partition}
 use Rattle.wh_state.specs.State.{State, Kind, TableKind, StreamKind, Object, Table, Contents, nothing_held, new_table}
 use Rattle.wh_state.specs.State.{new_object, new_stream, with_offset, dropped, version_for, columns_at, on_table}
 use Rattle.wh_state.specs.State.{TaskKind, DynamicKind, on_stream, on_task, on_dynamic, empty_table, last_content}
 use Rattle.wh_state.specs.State.{last_partitions, changed_at}
-use Rattle.wh_state.specs.Dynamic.{DynamicQuery, DynamicState, Dynamic, new_dynamic, with_dynamic_state}
+use Rattle.wh_state.specs.Dynamic.{DynamicQuery, DynamicState, Dynamic, GroupsChange, new_dynamic, with_dynamic_state}
+use Rattle.wh_state.specs.Dynamic.{with_groups}
+use Rattle.wh_state.specs.Bound.{kept_for}
 use Rattle.wh_state.specs.Task.{TaskBody, TaskState, Ending, Task, new_task, with_state, with_run, with_ended, root_by}
 use Rattle.wh_state.specs.Objects.{task_at}
 use Rattle.wh_state.specs.Edits.{Edits, partitions_made, contents_after}
@@ -37,8 +39,9 @@ pub data Act : Type 0 where
   MakesDynamic : (name : List ℕ) → (lag : ℕ) → (is_incremental : Bool) → DynamicQuery → (columns : List Column) → Act
   -- the state of the dynamic table of that id is another one
   PutsDynamic : (id : ℕ) → DynamicState → Act
-  -- a new version of the dynamic table of that id, whose rows stand for a moment
-  RefreshesRows : (id moment : ℕ) → Edits → Act
+  -- a new version of the dynamic table of that id, whose rows stand for a moment, and what it does to its groups, where
+  -- it is kept
+  RefreshesRows : (id moment : ℕ) → Edits → Option GroupsChange → Act
 
 -- ---- what an act does at a stamp
 
@@ -75,6 +78,12 @@ on_task_object f o = record o { kind = on_task f o.kind }
 abbrev pub on_dynamic_object : (Dynamic → Dynamic) → Object → Object
 on_dynamic_object f o = record o { kind = on_dynamic f o.kind }
 
+abbrev pub refreshed_kind : ℕ → ℕ → Edits → Option GroupsChange → Kind → Kind
+refreshed_kind stamp moment e c k = on_dynamic (with_groups c) (edited_kind stamp moment e k)
+
+abbrev pub refreshed_object : ℕ → ℕ → Edits → Option GroupsChange → Object → Object
+refreshed_object stamp moment e c o = record o { kind = refreshed_kind stamp moment e c o.kind }
+
 -- with the id that it gets
 abbrev pub task_made : List Object → ℕ → ℕ → List ℕ → TaskBody → Task
 task_made objects id minutes after runs = new_task minutes after (root_by (task_at objects) id after) runs
@@ -93,9 +102,10 @@ acted stamp objects (PutsTask id state) = changed_at objects id (on_task_object 
 acted stamp objects (BeginsRun root tasks) = changed_at objects root (on_task_object (with_run tasks))
 acted stamp objects (EndsTask root task ending) = changed_at objects root (on_task_object (with_ended task ending))
 acted stamp objects (MakesDynamic name lag is_incremental query columns) = objects ++ new_object name
-    (DynamicKind (new_dynamic lag is_incremental query) (empty_table columns stamp)) ∷ []
+    (DynamicKind (new_dynamic lag is_incremental (kept_for objects is_incremental query) query)
+    (empty_table columns stamp)) ∷ []
 acted stamp objects (PutsDynamic id state) = changed_at objects id (on_dynamic_object (with_dynamic_state state))
-acted stamp objects (RefreshesRows id moment e) = changed_at objects id (edited_object stamp moment e)
+acted stamp objects (RefreshesRows id moment e c) = changed_at objects id (refreshed_object stamp moment e c)
 
 abbrev pub all_acted : ℕ → List Object → List Act → List Object
 all_acted stamp objects [] = objects

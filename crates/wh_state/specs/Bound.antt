@@ -1,8 +1,12 @@
 -- What the query of a dynamic table binds to, over the objects of the ids that it is kept with.
 --     names_among     the objects that its text names
 --     query_bound     its query over numbered sources, with their ids
+--     grouping_bound  its Group, where groups may be kept of it
+--     kept_for        as its groups are kept first: where changes are carried through its query, and that has such a Group
 --     Binds           it binds to these columns
-use Rattle.std.specs.Prelude.{◌≡◌, IsTrue, false, List, [], ◌∷◌, map, Option, None}
+use Rattle.std.specs.Prelude.{◌≡◌, Bool, IsTrue, false, List, [], ◌∷◌, map, length, Option, None, option_map}
+use Rattle.std.specs.Prelude.{if◌then◌else◌}
+use Rattle.std.specs.FinMap.{empty}
 use Rattle.std.specs.List.{AllByRecursion, flat_map}
 use Rattle.std.specs.Option.{IsSomeAnd, option_map_or}
 use Rattle.wh_value.specs.Column.{Column}
@@ -11,7 +15,8 @@ use Rattle.wh_naming.specs.Scope.{ObjectKind, TableObject, TaskObject, DynamicTa
 use Rattle.wh_naming.specs.Select.{BoundQuery, bound_query, column_of}
 use Rattle.wh_state.specs.State.{TableOf, ObjectOf, KindOf, TableKind, StreamKind, TaskKind, DynamicKind, columns_in}
 use Rattle.wh_state.specs.State.{table_in, at_id}
-use Rattle.wh_state.specs.Dynamic.{Source, DynamicQuery}
+use Rattle.wh_maintenance.specs.Above.{Grouping, grouping}
+use Rattle.wh_state.specs.Dynamic.{Source, DynamicQuery, Kept}
 
 -- a stream is no source of a dynamic table, as a task is none anywhere
 abbrev pub source_kind : {T : Type 0} → KindOf T → ObjectKind
@@ -28,6 +33,17 @@ names_among objects sources = flat_map (λ s. option_map_or (λ o. named_as s o 
 
 abbrev pub query_bound : {Content : Type 0} → List (ObjectOf (KindOf (TableOf Content))) → DynamicQuery → BoundQuery
 query_bound objects q = bound_query q.tree (names_among objects q.sources) 0
+
+abbrev pub grouping_bound : {Content : Type 0} → List (ObjectOf (KindOf (TableOf Content))) → DynamicQuery
+    → Option Grouping
+grouping_bound objects q = grouping (query_bound objects q).query
+
+abbrev pub kept_first : Grouping → Kept
+kept_first g = record { keys = length g.by; calls = length g.calls; groups = empty }
+
+abbrev pub kept_for : {Content : Type 0} → List (ObjectOf (KindOf (TableOf Content))) → Bool → DynamicQuery
+    → Option Kept
+kept_for objects is_incremental q = if is_incremental then option_map kept_first (grouping_bound objects q) else None
 
 -- ---- when it binds
 

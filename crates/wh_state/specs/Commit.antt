@@ -5,7 +5,8 @@
 --     Applies, applied     when a commit may stand in a file, and what the file then says
 --     Leads                commits that apply one after the other
 use Rattle.std.specs.Prelude.{◌≡◌, ℕ, ◌+◌, ◌<◌, ◌≤◌, ◌⊎◌, Bool, IsTrue, List, [], ◌∷◌, ◌++◌, length, Option, IsNone}
-use Rattle.std.specs.Prelude.{false, not, ◌&&◌, map, nat_eq, is_some, count_by}
+use Rattle.std.specs.Prelude.{false, not, ◌&&◌, map, nat_eq, is_some, count_by, Some, None, if◌then◌else◌}
+use Rattle.std.specs.FinMap.{get}
 use Rattle.std.specs.List.{AllByRecursion, list_any}
 use Rattle.std.specs.Option.{IfSome, IsSomeAnd, option_map_or}
 use Rattle.wh_value.specs.Column.{Column}
@@ -21,10 +22,12 @@ use Rattle.wh_state.specs.State.{ObjectOf, TaskKind, DynamicKind, on_task, on_dy
 use Rattle.wh_state.specs.Task.{TaskTexts, TaskBody, texts_of, TaskState, Ending, TaskRun, Run, Task, new_task}
 use Rattle.wh_state.specs.Task.{with_state}
 use Rattle.wh_state.specs.Task.{with_run, with_ended, root_by, most_failures}
+use Rattle.wh_maintenance.specs.Standing.{Groups}
+use Rattle.wh_maintenance.specs.Entries.{GroupEntry}
 use Rattle.wh_state.specs.Dynamic.{DynamicTexts, DynamicQuery, query_texts_of, DynamicState, Dynamic, new_dynamic}
-use Rattle.wh_state.specs.Dynamic.{with_dynamic_state, most_failed_refreshes}
-use Rattle.wh_state.specs.Objects.{task_at, is_table}
-use Rattle.wh_state.specs.Bound.{Binds}
+use Rattle.wh_state.specs.Dynamic.{with_dynamic_state, most_failed_refreshes, Kept, GroupsChange, behind_change}
+use Rattle.wh_state.specs.Objects.{task_at, dynamic_at, is_table}
+use Rattle.wh_state.specs.Bound.{Binds, kept_for}
 use Rattle.wh_state.specs.Edits.{without, is_among}
 use Rattle.wh_state.specs.Stored.{StoredTable, StoredKind, StoredObject, Stored, standing}
 
@@ -95,6 +98,7 @@ pub data ChangeIn (form : Form) : Type 0 where
   FinishesTask : (root task : ℕ) → Ending → ChangeIn form
   CreatesDynamic : DynamicChangeIn form → ChangeIn form
   SetsDynamic : (id : ℕ) → DynamicState → ChangeIn form
+  SetsGroups : (id : ℕ) → GroupsChange → ChangeIn form
 
 pub record CommitIn (form : Form) : Type 0 where
   pub stamp : ℕ
@@ -144,6 +148,7 @@ change_as_text (StartsRun root tasks) = StartsRun root tasks
 change_as_text (FinishesTask root task ending) = FinishesTask root task ending
 change_as_text (CreatesDynamic c) = CreatesDynamic (dynamic_as_text c)
 change_as_text (SetsDynamic id state) = SetsDynamic id state
+change_as_text (SetsGroups id c) = SetsGroups id c
 
 abbrev pub as_text : Commit → TextCommit
 as_text c = record { stamp = c.stamp; changes = map change_as_text c.changes }
@@ -198,8 +203,10 @@ changed stamp objects (StartsRun root tasks) = changed_at objects root (on_task_
 changed stamp objects (FinishesTask root task ending) =
     changed_at objects root (on_task_stored (with_ended task ending))
 changed stamp objects (CreatesDynamic c) = objects ++ new_object c.name
-    (DynamicKind (new_dynamic c.lag c.is_incremental c.query) (empty_table c.columns stamp)) ∷ []
+    (DynamicKind (new_dynamic c.lag c.is_incremental (kept_for objects c.is_incremental c.query) c.query)
+    (empty_table c.columns stamp)) ∷ []
 changed stamp objects (SetsDynamic id state) = changed_at objects id (on_dynamic_stored (with_dynamic_state state))
+changed stamp objects (SetsGroups id c) = changed_at objects id (on_dynamic_stored (behind_change c))
 
 abbrev pub all_changed : ℕ → List StoredObject → List Change → List StoredObject
 all_changed stamp objects [] = objects
@@ -369,6 +376,20 @@ abbrev pub DynamicStateApplies : Option StoredObject → DynamicState → Type 0
 DynamicStateApplies found s =
     IsSomeAnd found (λ o. IsTrue o.is_live × IsSomeAnd (dynamic_in o.kind) (λ d. TakesState d s))
 
+-- a group is removed only where one stands
+abbrev pub MaySet : Groups → GroupEntry → Type 0
+MaySet groups e = e.group ≡ None → IsSomeAnd (get groups e.key) (λ s. Unit {0})
+
+-- with the keys and calls of the table's query
+pub record TakesGroups (c : GroupsChange) (k : Kept) : Type 0 where
+  pub keys : c.keys ≡ k.keys
+  pub calls : c.calls ≡ k.calls
+  pub entries : AllByRecursion (MaySet k.groups) c.entries
+
+abbrev pub GroupsApply : Option StoredObject → GroupsChange → Type 0
+GroupsApply found c = IsSomeAnd found (λ o. IsTrue o.is_live
+    × IsSomeAnd (dynamic_in o.kind) (λ d. IsSomeAnd d.kept (TakesGroups c)))
+
 -- ---- drops
 
 abbrev pub MayGo : List StoredObject → ℕ → Type 0
@@ -386,16 +407,39 @@ ChangeApplies objects (StartsRun root tasks) = RunApplies objects root tasks
 ChangeApplies objects (FinishesTask root task ending) = EndApplies (at_id objects root) task
 ChangeApplies objects (CreatesDynamic c) = DynamicApplies objects c
 ChangeApplies objects (SetsDynamic id state) = DynamicStateApplies (at_id objects id) state
+ChangeApplies objects (SetsGroups id c) = GroupsApply (at_id objects id) c
 
 -- each change applies to what those before it leave
 abbrev pub AllApply : ℕ → List StoredObject → List Change → Type 0
 AllApply stamp objects [] = Unit {0}
 AllApply stamp objects (c ∷ cs) = ChangeApplies objects c × AllApply stamp (changed stamp objects c) cs
 
+-- ---- versions and groups
+
+-- the id of the table whose groups a change sets
+abbrev pub groups_set : Change → Option ℕ
+groups_set (SetsGroups id c) = Some id
+groups_set _ = None
+
+abbrev pub is_kept_at : List StoredObject → ℕ → Bool
+is_kept_at objects id = option_map_or (λ d. is_some d.kept) (dynamic_at objects id) false
+
+-- those of which table are to be set next: of one that is kept, right behind its version
+abbrev pub groups_due : List StoredObject → Change → Option ℕ
+groups_due objects (PushesVersion c) = if is_kept_at objects c.id then Some c.id else None
+groups_due objects _ = None
+
+-- groups are set where they are due, and nowhere else
+abbrev pub GroupsFollow : ℕ → List StoredObject → Option ℕ → List Change → Type 0
+GroupsFollow stamp objects due [] = due ≡ None
+GroupsFollow stamp objects due (c ∷ cs) =
+    (groups_set c ≡ due) × GroupsFollow stamp (changed stamp objects c) (groups_due objects c) cs
+
 pub record Applies (s : Stored) (c : Commit) : Type 0 where
   pub later : s.last < c.stamp
   pub within : c.stamp < bound limits.Stamp
   pub changes : AllApply c.stamp s.objects c.changes
+  pub groups : GroupsFollow c.stamp s.objects None c.changes
 
 -- the commits apply one after the other, and leave that
 abbrev pub Leads : Stored → List Commit → Stored → Type 0

@@ -4,8 +4,12 @@
 --     IsQuerySpelled                the text spells the tree
 --     ids_read                      the ids of what it reads
 --     DynamicState, Dynamic         what ALTER DYNAMIC TABLE and refreshes move of it; all that it has
---     with_dynamic_state            one in another state
-use Rattle.std.specs.Prelude.{ℕ, Bool, false, List, [], ◌∷◌, map, bytes_eq, if◌then◌else◌}
+--     Kept                          its groups, where it is kept
+--     GroupsChange                  what a version does to them
+--     with_dynamic_state, with_groups     one in another state, and one behind a change of its groups
+use Rattle.std.specs.Prelude.{ℕ, Bool, false, List, [], ◌∷◌, map, bytes_eq, if◌then◌else◌, Option, None, Some, option_map}
+use Rattle.wh_maintenance.specs.Standing.{Groups}
+use Rattle.wh_maintenance.specs.Entries.{GroupEntry, set_all}
 use Rattle.wh_ast.specs.declared.query.Query.{Query}
 use Rattle.wh_ast.specs.declared.statement.Statement.TheVariants as st
 use Rattle.wh_grammar.specs.Spelled.{Spells}
@@ -60,14 +64,41 @@ most_failed_refreshes = 5
 abbrev pub first_dynamic_state : ℕ → DynamicState
 first_dynamic_state lag = record { lag = lag; is_suspended = false; failures = 0; tried = 0; moment = 0 }
 
+-- ---- its groups
+
+-- of a query that is one Group over a linear one: how many keys and calls that has, and its groups
+pub record Kept : Type 0 where
+  pub keys : ℕ
+  pub calls : ℕ
+  pub groups : Groups
+
+-- with so many keys and calls
+pub record GroupsChange : Type 0 where
+  pub keys : ℕ
+  pub calls : ℕ
+  pub entries : List GroupEntry
+
+abbrev pub behind_entries : List GroupEntry → Kept → Kept
+behind_entries entries k = record k { groups = set_all entries k.groups }
+
+-- ---- all that it has
+
 pub record Dynamic : Type 0 where
   pub query : DynamicQuery
   pub is_incremental : Bool
   pub state : DynamicState
+  pub kept : Option Kept
 
-abbrev pub new_dynamic : ℕ → Bool → DynamicQuery → Dynamic
-new_dynamic lag is_incremental query =
-    record { query = query; is_incremental = is_incremental; state = first_dynamic_state lag }
+abbrev pub new_dynamic : ℕ → Bool → Option Kept → DynamicQuery → Dynamic
+new_dynamic lag is_incremental kept query =
+    record { query = query; is_incremental = is_incremental; state = first_dynamic_state lag; kept = kept }
 
 abbrev pub with_dynamic_state : DynamicState → Dynamic → Dynamic
 with_dynamic_state state d = record d { state = state }
+
+abbrev pub behind_change : GroupsChange → Dynamic → Dynamic
+behind_change c d = record d { kept = option_map (behind_entries c.entries) d.kept }
+
+abbrev pub with_groups : Option GroupsChange → Dynamic → Dynamic
+with_groups None d = d
+with_groups (Some c) d = behind_change c d

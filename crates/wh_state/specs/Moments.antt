@@ -1,6 +1,7 @@
 -- The queries of dynamic tables, evaluated for a moment.
 --     bag_at, instance_at     the rows of a source, and of all sources of a query
 --     evaluated_at            what a query gives then; None where it is undefined
+--     groups_at               the groups of its Group then
 --     all_given, written_out, over_tables     the same over tables alone, where each dynamic table that it reads is
 --                             written out as its query
 --     StandsFor               a table's rows are what its query gives for its moment
@@ -10,11 +11,13 @@ use Rattle.std.specs.Option.{IfSome, option_and_then, option_map_or}
 use Rattle.std.specs.FinMap.{values}
 use Rattle.wh_meaning.specs.Bag.{Bag, no_rows, bag_of}
 use Rattle.wh_meaning.specs.Query.{Instance, eval}
+use Rattle.wh_maintenance.specs.Standing.{Groups}
+use Rattle.wh_maintenance.specs.Entries.{groups_over}
 use Rattle.wh_state.specs.State.{Kind, TableKind, StreamKind, TaskKind, DynamicKind, Object, Table, last_rows}
 use Rattle.wh_state.specs.State.{rows_at, at_id}
 use Rattle.wh_state.specs.Objects.{table_at, dynamic_at}
 use Rattle.wh_state.specs.Dynamic.{Dynamic, ids_read}
-use Rattle.wh_state.specs.Bound.{query_bound}
+use Rattle.wh_state.specs.Bound.{query_bound, grouping_bound}
 
 -- each row as often as it stands there
 abbrev pub bag_at : List Object → ℕ → ℕ → Bag
@@ -26,6 +29,11 @@ instance_at objects moment ids = map (bag_at objects moment) ids
 unfoldable pub evaluated_at : List Object → ℕ → Dynamic → Option Bag
 evaluated_at objects moment d =
     eval (query_bound objects d.query).query (instance_at objects moment (ids_read d.query))
+
+-- None where it has no Group of which groups may be kept, or where that is undefined
+unfoldable pub groups_at : List Object → ℕ → Dynamic → Option Groups
+groups_at objects moment d =
+    option_and_then (groups_over (instance_at objects moment (ids_read d.query))) (grouping_bound objects d.query)
 
 -- ---- over tables alone
 
@@ -56,10 +64,11 @@ over_tables (suc layers) objects moment id = option_map_or
 
 -- ---- a table that stands for a moment
 
--- each dynamic table that it reads stands for that moment, or a later one. Wherever there are layers enough for what it
--- reads, its rows are those of its query over tables alone, too
+-- the groups that are kept of it are those for its moment, and each dynamic table that it reads stands for that moment, or
+-- a later one. Wherever there are layers enough for what it reads, its rows are those of its query over tables alone, too
 pub record StandsFor (objects : List Object) (d : Dynamic) (t : Table) : Type 0 where
   pub rows : evaluated_at objects d.state.moment d ≡ Some (bag_of (values (last_rows t)))
+  pub groups : IfSome d.kept (λ k. groups_at objects d.state.moment d ≡ Some k.groups)
   pub sources : AllByRecursion (λ id. IfSome (dynamic_at objects id) (λ e. d.state.moment ≤ e.state.moment))
       (ids_read d.query)
   pub whole : (layers : ℕ) → AllByRecursion (λ id. id < layers) (ids_read d.query)

@@ -5,16 +5,16 @@
 --     ReadsEarlier         what a dynamic table reads was created before it
 --     Sound                of a state
 --     IsSoundFile          of each state that a file stands for
-use Rattle.std.specs.Prelude.{◌≡◌, ℕ, ◌<◌, ◌≤◌, IsTrue, List, [], ◌∷◌, Some, None}
+use Rattle.std.specs.Prelude.{◌≡◌, ℕ, ◌<◌, ◌≤◌, IsTrue, List, [], ◌∷◌, Option, Some, None}
 use Rattle.std.specs.List.{AllByRecursion}
-use Rattle.std.specs.Option.{IfSome}
-use Rattle.std.specs.FinMap.{get}
+use Rattle.std.specs.Option.{IfSome, IsSomeAnd}
+use Rattle.std.specs.FinMap.{get, empty}
 use Rattle.wh_value.specs.Value.{Row}
 use Rattle.wh_state.specs.State.{Version, Table, Kind, TableKind, StreamKind, TaskKind, DynamicKind, Object, State}
 use Rattle.wh_algebra.specs.Increments.{incrementable}
-use Rattle.wh_state.specs.Dynamic.{Dynamic, ids_read}
+use Rattle.wh_state.specs.Dynamic.{Kept, Dynamic, ids_read}
 use Rattle.wh_state.specs.Objects.{table_at, dynamic_at}
-use Rattle.wh_state.specs.Bound.{query_bound}
+use Rattle.wh_state.specs.Bound.{query_bound, kept_for}
 use Rattle.wh_state.specs.Moments.{StandsFor}
 use Rattle.wh_state.specs.File.{Stands}
 
@@ -65,7 +65,12 @@ abbrev pub IsOlder : List Object → ℕ → ℕ → Type 0
 IsOlder objects created id =
     IfSome (dynamic_at objects id) (λ e. IfSome (table_at objects id) (λ u. u.created ≤ created))
 
--- one that stands for a moment has the rows of its query for it, and one that stands for none has no version
+-- its groups are kept as its query and its mode ask for
+abbrev pub IsKeptAs : Option Kept → Option Kept → Type 0
+IsKeptAs None found = found ≡ None
+IsKeptAs (Some first) found = IsSomeAnd found (λ k. (k.keys ≡ first.keys) × (k.calls ≡ first.calls))
+
+-- one that stands for a moment has the rows of its query for it, and one that stands for none has no version, and no group
 pub record IsSoundDynamic (committed : ℕ) (objects : List Object) (d : Dynamic) (t : Table) : Type 0 where
   pub created : t.created ≤ committed
   pub older : AllByRecursion (IsOlder objects t.created) (ids_read d.query)
@@ -76,8 +81,10 @@ pub record IsSoundDynamic (committed : ℕ) (objects : List Object) (d : Dynamic
   pub below : AllByRecursion (IsBelow t.next_row) t.versions
   pub none_returns : NoneReturns t.versions
   pub mode : IsTrue d.is_incremental → IsTrue (incrementable (query_bound objects d.query).query)
+  pub kept : IsKeptAs (kept_for objects d.is_incremental d.query) d.kept
   pub stands : 0 < d.state.moment → StandsFor objects d t
   pub none : d.state.moment ≡ 0 → t.versions ≡ []
+  pub no_groups : d.state.moment ≡ 0 → IfSome d.kept (λ k. k.groups ≡ empty)
 
 -- a stream's offset isn't after the last commit
 abbrev pub IsSoundKind : ℕ → List Object → Kind → Type 0

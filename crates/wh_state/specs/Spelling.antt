@@ -1,17 +1,23 @@
 -- The bytes of commits.
 --     payload_of     a stamp, and a list of changes, each behind its tag
 --     IsCommit       what a commit may be: numbers, names and values within the format
-use Rattle.std.specs.Prelude.{ℕ, ◌+◌, ◌<◌, ◌≤◌, ◌^◌, Bool, true, false, List, [], ◌∷◌, ◌++◌, length}
-use Rattle.std.specs.List.{AllByRecursion}
-use Rattle.std.specs.Int.{w32, w64, to_be_bytes}
-use Rattle.wh_value.specs.Value.{IsText}
+use Rattle.std.specs.Prelude.{◌≡◌, ℕ, ◌+◌, ◌-◌, ◌<◌, ◌≤◌, ◌^◌, Bool, true, false, List, [], ◌∷◌, ◌++◌, length, map}
+use Rattle.std.specs.Prelude.{replicate, Option, Some, None, pos, negsuc, ◌≤ℤ◌}
+use Rattle.std.specs.Option.{IfSome}
+use Rattle.std.specs.List.{AllByRecursion, flat_map}
+use Rattle.std.specs.List.Sorted.{IsStrictlySortedBy}
+use Rattle.std.specs.Int.{w32, w64, to_be_bytes, cast_unsigned}
+use Rattle.wh_value.specs.Value.{Row, row_cmp, IsText, IsRow}
 use Rattle.wh_value.specs.Column.{Column, ColumnType, NumberType, VarcharType, BooleanType}
-use Rattle.wh_frame.specs.Spelling.{text_bytes, list_bytes, partition_bytes, IsPartition}
+use Rattle.wh_frame.specs.Spelling.{text_bytes, list_bytes, value_bytes, partition_bytes, IsPartition}
+use Rattle.wh_meaning.specs.Query.{Total}
+use Rattle.wh_maintenance.specs.Standing.{Standing, nothing_yet}
+use Rattle.wh_maintenance.specs.Entries.{GroupEntry}
 use Rattle.wh_state.specs.Commit.{TableChange, VersionChange, StreamChange, Change, CreatesTable, Drops}
 use Rattle.wh_state.specs.Commit.{PushesVersion, CreatesStream, SetsOffset, CreatesTask, SetsTask, StartsRun}
-use Rattle.wh_state.specs.Commit.{CreatesDynamic, SetsDynamic, DynamicChangeIn}
+use Rattle.wh_state.specs.Commit.{CreatesDynamic, SetsDynamic, SetsGroups, DynamicChangeIn}
 use Rattle.wh_state.specs.Commit.{FinishesTask, TaskChangeIn, InTexts, TextChange, TextCommit, Commit, as_text}
-use Rattle.wh_state.specs.Dynamic.{Source, DynamicState, IsQuerySpelled}
+use Rattle.wh_state.specs.Dynamic.{Source, DynamicState, GroupsChange, IsQuerySpelled}
 use Rattle.wh_state.specs.Task.{TaskState, Ending, Succeeded, Failed, Skipped, IsSpelled}
 
 abbrev pub type_byte : ColumnType → ℕ
@@ -80,6 +86,21 @@ unfoldable pub dynamic_state_bytes : ℕ → DynamicState → List ℕ
 dynamic_state_bytes id s = to_be_bytes w32 id ++ to_be_bytes w32 s.lag ++ truth_byte s.is_suspended
     ∷ to_be_bytes w32 s.failures ++ to_be_bytes w64 s.tried ++ to_be_bytes w64 s.moment
 
+abbrev pub total_bytes : Total → List ℕ
+total_bytes t = to_be_bytes w64 (cast_unsigned w64 t.sum) ++ to_be_bytes w64 t.values
+
+-- its rows, and a total for each call; one that is removed has no rows, and nothing added up
+unfoldable pub standing_bytes : ℕ → Option Standing → List ℕ
+standing_bytes calls None = to_be_bytes w64 0 ++ flat_map total_bytes (replicate calls nothing_yet)
+standing_bytes calls (Some s) = to_be_bytes w64 s.rows ++ flat_map total_bytes s.totals
+
+unfoldable pub entry_bytes : ℕ → GroupEntry → List ℕ
+entry_bytes calls e = flat_map value_bytes e.key ++ standing_bytes calls e.group
+
+unfoldable pub groups_bytes : ℕ → GroupsChange → List ℕ
+groups_bytes id c = to_be_bytes w32 id ++ to_be_bytes w32 c.keys ++ to_be_bytes w32 c.calls
+    ++ list_bytes (entry_bytes c.calls) c.entries
+
 unfoldable pub change_bytes : TextChange → List ℕ
 change_bytes (CreatesTable c) = 1 ∷ table_bytes c
 change_bytes (Drops id) = 2 ∷ to_be_bytes w32 id
@@ -92,6 +113,7 @@ change_bytes (StartsRun root tasks) = 6 ∷ run_bytes root tasks
 change_bytes (FinishesTask root task ending) = 7 ∷ end_bytes root task ending
 change_bytes (CreatesDynamic c) = 8 ∷ dynamic_bytes c
 change_bytes (SetsDynamic id state) = 9 ∷ dynamic_state_bytes id state
+change_bytes (SetsGroups id c) = 12 ∷ groups_bytes id c
 
 unfoldable pub text_payload : TextCommit → List ℕ
 text_payload c = to_be_bytes w64 c.stamp ++ list_bytes change_bytes c.changes
@@ -180,6 +202,35 @@ pub record IsDynamicState (table : ℕ) (s : DynamicState) : Type 0 where
   pub tried : s.tried < 2 ^ 64
   pub moment : s.moment < 2 ^ 64
 
+-- a sum that 64 bits hold
+pub record IsTotal (t : Total) : Type 0 where
+  pub least : negsuc (2 ^ 63 - 1) ≤ℤ t.sum
+  pub most : t.sum ≤ℤ pos (2 ^ 63 - 1)
+  pub values : t.values < 2 ^ 64
+
+pub record IsStanding (calls : ℕ) (s : Standing) : Type 0 where
+  pub some : 0 < s.rows
+  pub few : s.rows < 2 ^ 64
+  pub all : length s.totals ≡ calls
+  pub totals : AllByRecursion IsTotal s.totals
+
+pub record IsGroupEntry (keys calls : ℕ) (e : GroupEntry) : Type 0 where
+  pub width : length e.key ≡ keys
+  pub key : IsRow e.key
+  pub group : IfSome e.group (IsStanding calls)
+
+abbrev pub keys_of : List GroupEntry → List Row
+keys_of entries = map (λ e. e.key) entries
+
+-- entries by rising key
+pub record IsGroupsChange (table : ℕ) (c : GroupsChange) : Type 0 where
+  pub id : table < 2 ^ 32
+  pub keys : c.keys < 2 ^ 32
+  pub calls : c.calls < 2 ^ 32
+  pub few : length c.entries < 2 ^ 32
+  pub rising : IsStrictlySortedBy row_cmp (keys_of c.entries)
+  pub entries : AllByRecursion (IsGroupEntry c.keys c.calls) c.entries
+
 abbrev pub IsChange : TextChange → Type 0
 IsChange (CreatesTable c) = IsTableChange c
 IsChange (Drops id) = id < 2 ^ 32
@@ -192,6 +243,7 @@ IsChange (StartsRun root tasks) = IsRunChange root tasks
 IsChange (FinishesTask root task ending) = (root < 2 ^ 32) × (task < 2 ^ 32)
 IsChange (CreatesDynamic c) = IsDynamicChange c
 IsChange (SetsDynamic id state) = IsDynamicState id state
+IsChange (SetsGroups id c) = IsGroupsChange id c
 
 pub record IsTextCommit (c : TextCommit) : Type 0 where
   pub stamp : c.stamp < 2 ^ 64

@@ -12,7 +12,8 @@ use Rattle.wh_state.specs.Act.{BeginsRun, EndsTask, MakesDynamic, PutsDynamic, R
 use Rattle.wh_state.specs.Stored.{StoredTable, StoredObject, Stored, standing}
 use Rattle.wh_state.specs.Commit.{VersionChange, Change, CreatesTable, Drops, PushesVersion, CreatesStream, SetsOffset}
 use Rattle.wh_state.specs.Commit.{Commit, CreatesTask, SetsTask, StartsRun, FinishesTask, CreatesDynamic, SetsDynamic}
-use Rattle.wh_state.specs.Commit.{all_changed, applied}
+use Rattle.wh_state.specs.Commit.{SetsGroups, all_changed, applied}
+use Rattle.wh_state.specs.Dynamic.{GroupsChange}
 use Rattle.wh_state.specs.Spelling.{payload_of}
 
 -- ---- acts as changes
@@ -35,6 +36,11 @@ abbrev pub version_written_to : ℕ → ℕ → Edits → Option StoredObject �
 version_written_to moment id e None = []
 version_written_to moment id e (Some o) =
     option_to_list (option_map (version_written moment id e) (table_in o.kind))
+
+-- what it does to groups stands right behind it
+abbrev pub groups_written : ℕ → Option GroupsChange → List Change
+groups_written id None = []
+groups_written id (Some c) = SetsGroups id c ∷ []
 
 abbrev pub act_written : ℕ → List StoredObject → Act → List Change
 act_written stamp objects (MakesTable name columns retention) =
@@ -63,7 +69,8 @@ act_written stamp objects (MakesDynamic name lag is_incremental query columns) =
   columns = columns;
 }) ∷ []
 act_written stamp objects (PutsDynamic id state) = SetsDynamic id state ∷ []
-act_written stamp objects (RefreshesRows id moment e) = version_written_to moment id e (at_id objects id)
+act_written stamp objects (RefreshesRows id moment e c) =
+    version_written_to moment id e (at_id objects id) ++ groups_written id c
 
 abbrev pub written : ℕ → List StoredObject → List Act → List Change
 written stamp objects [] = []

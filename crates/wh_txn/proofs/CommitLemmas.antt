@@ -35,7 +35,7 @@ moves_written stamp now (BeginsRun root tasks ∷ acts) moves = absurd moves
 moves_written stamp now (EndsTask root task ending ∷ acts) moves = absurd moves
 moves_written stamp now (MakesDynamic name lag is_incremental query columns ∷ acts) moves = absurd moves
 moves_written stamp now (PutsDynamic id state ∷ acts) moves = absurd moves
-moves_written stamp now (RefreshesRows id moment e ∷ acts) moves = absurd moves
+moves_written stamp now (RefreshesRows id moment e groups ∷ acts) moves = absurd moves
 
 pub offsets_append : (first more : List Act)
     → offsets_written (first ++ more) ≡ offsets_written first ++ offsets_written more

@@ -32,7 +32,7 @@ offset_read (BeginsRun root tasks) = tt
 offset_read (EndsTask root task ending) = tt
 offset_read (MakesDynamic name lag is_incremental query columns) = tt
 offset_read (PutsDynamic id state) = tt
-offset_read (RefreshesRows id moment e) = tt
+offset_read (RefreshesRows id moment e groups) = tt
 
 offsets_read : (acts : List Act) → AllByRecursion IsUnderstood (offsets_written acts)
 offsets_read [] = tt

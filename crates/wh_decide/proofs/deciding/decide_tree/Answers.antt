@@ -15,12 +15,13 @@ use Rattle.wh_reply.specs.View.{refusal_view}
 use Rattle.wh_machine.specs.Names.{refusal_of, names_from}
 use Rattle.wh_catalog.specs.Catalog.{state_of}
 use Rattle.wh_machine.specs.Outcome.{Refuses}
-use Rattle.wh_decide.specs.Definitions.{earlier_refusal}
+use Rattle.wh_decide.specs.Definitions.{earlier_refusal, IsBoundOver}
 use Rattle.wh_decide.specs.Names.{over}
 use Rattle.wh_decide.specs.Sight.{machine_in}
 use Rattle.wh_decide.proofs.OutcomeLemmas.{comes_as, viewed_or}
 use Rattle.wh_decide.proofs.CommandLemmas.{command_of_none, command_bound, command_failing}
 use Rattle.wh_decide.proofs.ReadyLemmas.{nothing_ready}
+use Rattle.wh_decide.proofs.MadeDynamics.{bound_over}
 use Rattle.wh_decide.proofs.SpelledLemmas.{meant_read}
 use Rattle.wh_decide.proofs.AskLemmas.{bound_unasked}
 use Rattle.wh_decide.specs.Asked.{AsksAsBound}
@@ -42,6 +43,7 @@ returns-then-not-is_session-clause-comes g c = λ shown sound.
 pub returns-in-Ok-clause-comes : goal.returns-in-Ok-clause-comes
 returns-in-Ok-clause-comes g c = λ shown sound.
     let sight = c.args.sight.now in
+    let objects = (state_of sight.catalog.now).objects in
     let tree = c.args.statement.now in
     let same = named_as tree c.deref.ensures.value c.deref-2.ensures.value
     (c.in_ok-objects.ensures (map root_in c.in_ok-roots.roots.items)
@@ -49,7 +51,8 @@ returns-in-Ok-clause-comes g c = λ shown sound.
     comes_as sight c.decide_bound.result
     (command_bound (machine_in sight) sight.session tree _ c.in-Ok.bound
     (sym c.is_session.ensures ∙ c.if-not-is_session.false) same c.in-Ok.ensures)
-    (c.decide_bound.ensures.comes shown sound)
+    (c.decide_bound.ensures.comes shown sound (subst (IsBoundOver objects)
+    (sym (c.in-Ok.ensures.bound ∙ ap (λ (m : Meant Bound). m.value) same)) (bound_over objects tree)))
 
 pub returns-in-Err-Failing-clause-comes : goal.returns-in-Err-Failing-clause-comes
 returns-in-Err-Failing-clause-comes g c = λ shown sound.

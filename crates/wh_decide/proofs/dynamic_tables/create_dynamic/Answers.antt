@@ -15,12 +15,13 @@ use Rattle.wh_decide.proofs.OutcomeLemmas.{comes_as}
 use Rattle.wh_decide.proofs.ReadyLemmas.{nothing_ready}
 use Rattle.wh_decide.proofs.DefineLemmas.{none_past}
 use Rattle.wh_decide.proofs.NewDynamics.{IsWithin, defines_dynamic, within_limits}
+use Rattle.wh_decide.proofs.MadeDynamics.{may_make}
 use Rattle.wh_decide.proofs.dynamic_tables.create_dynamic.Given.{Over}
 use Rattle.wh_decide.proofs.dynamic_tables.create_dynamic.Goals.{In_default}
 use Rattle.wh_decide.proofs.dynamic_tables.create_dynamic.Goals as goal
 
 pub returns-in-Some-clause-comes : goal.returns-in-Some-clause-comes
-returns-in-Some-clause-comes g c = λ shown sound.
+returns-in-Some-clause-comes g c = λ shown sound over.
     let sight = c.args.sight.now in
     defines_dynamic (state_of sight.catalog.now) sight.stamp (sessions_of sight.sessions.now) sight.session
     (new_dynamic_table_of c.args.table.now) _ (Some (refusal_view c.in-Some.why)) c.in_ok-wrong.ensures
@@ -64,9 +65,10 @@ new_dynamic-requires-clause-room g c =
     omega (arith, kept.room, count_is c.args.sight.now.catalog.now)
 
 pub returns-clause-comes : goal.returns-clause-comes
-returns-clause-comes g c = λ shown sound.
+returns-clause-comes g c = λ shown sound over.
     comes_as c.args.sight.now c.new_dynamic.result (sym (defined_as g (goal.at.returns-clause-comes g c).In_default))
-    (c.new_dynamic.ensures.comes shown sound)
+    (c.new_dynamic.ensures.comes shown sound (may_make (state_of c.args.sight.now.catalog.now)
+    (new_dynamic_table_of c.args.table.now) over (within g (goal.at.returns-clause-comes g c).In_default)))
 
 pub returns-in-Some-clause-ready : goal.returns-in-Some-clause-ready
 returns-in-Some-clause-ready g c = λ spelled. nothing_ready c.args.sight.now

@@ -20,26 +20,26 @@ id_is g c =
     omega (arith, count, count_is c.args.sight.now.catalog.now)
 
 pub returns-in-Fails-clause-comes : goal.returns-in-Fails-clause-comes
-returns-in-Fails-clause-comes g c = λ shown sound.
+returns-in-Fails-clause-comes g c = λ shown sound may.
     let sight = c.args.sight.now in
     let m = machine_in sight in
     let n = new_dynamic_table_of c.args.table.now in
     let state = with_dynamic m.state n (query_of n) in
     let stored = stored_with sight.stamp (stored_of sight.catalog.now).objects n in
     let fails = subst (λ f. RefreshesAs sight.stamp stored f (asked_refresh state c.args.change.id)) c.in-Fails.is
-    (c.in_ok-found.ensures.refreshes shown sound n c.in_ok-made.ensures.made) in
+    (c.in_ok-found.ensures.refreshes shown sound n may c.in_ok-made.ensures.made) in
     ap (made_with m n (query_of n))
     (ap (asked_refresh state) (sym (id_is g (goal.at.returns-in-Fails-clause-comes g c).In_ok-found)) ∙ fails)
 
 pub returns-in_ok-created-in-Brings-clause-comes : goal.returns-in_ok-created-in-Brings-clause-comes
-returns-in_ok-created-in-Brings-clause-comes g c = λ shown sound.
+returns-in_ok-created-in-Brings-clause-comes g c = λ shown sound may.
     let sight = c.args.sight.now in
     let m = machine_in sight in
     let n = new_dynamic_table_of c.args.table.now in
     let state = with_dynamic m.state n (query_of n) in
     let stored = stored_with sight.stamp (stored_of sight.catalog.now).objects n in
     let brings = subst (λ f. RefreshesAs sight.stamp stored f (asked_refresh state c.args.change.id)) c.in-Brings.is
-    (c.in_ok-found.ensures.refreshes shown sound n c.in_ok-made.ensures.made) in
+    (c.in_ok-found.ensures.refreshes shown sound n may c.in_ok-made.ensures.made) in
     decides_as sight _
     (sym (ap (made_with m n (query_of n))
     (ap (asked_refresh state) (sym (id_is g (goal.at.returns-in_ok-created-in-Brings-clause-comes g c).In_ok-found))

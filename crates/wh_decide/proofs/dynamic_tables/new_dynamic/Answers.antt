@@ -15,7 +15,7 @@ use Rattle.wh_decide.proofs.OutcomeLemmas.{decides_as, comes_as}
 use Rattle.wh_decide.proofs.dynamic_tables.new_dynamic.Goals as goal
 
 pub returns-in_ok-created-in-OnSchedule-clause-comes : goal.returns-in_ok-created-in-OnSchedule-clause-comes
-returns-in_ok-created-in-OnSchedule-clause-comes g c = λ shown sound.
+returns-in_ok-created-in-OnSchedule-clause-comes g c = λ shown sound may.
     let sight = c.args.sight.now in
     let m = machine_in sight in
     let n = new_dynamic_table_of c.args.table.now in
@@ -30,12 +30,12 @@ returns-in_ok-created-in-OnSchedule-clause-comes g c = λ shown sound.
     (ap (map change_of) c.new-more.ensures.items))
 
 pub returns-in-OnCreate-clause-comes : goal.returns-in-OnCreate-clause-comes
-returns-in-OnCreate-clause-comes g c = λ shown sound.
+returns-in-OnCreate-clause-comes g c = λ shown sound may.
     let sight = c.args.sight.now in
     let n = new_dynamic_table_of c.args.table.now in
     comes_as sight c.initialized.result
     (ap (initialized (machine_in sight) n (query_of n)) (sym c.in-OnCreate.is))
-    (c.initialized.ensures.comes shown sound)
+    (c.initialized.ensures.comes shown sound may)
 
 pub returns-in_ok-created-in-OnSchedule-clause-ready : goal.returns-in_ok-created-in-OnSchedule-clause-ready
 returns-in_ok-created-in-OnSchedule-clause-ready g c = λ spelled.

@@ -7,25 +7,26 @@ use Rattle.wh_meaning.specs.Scalar.{of_two}
 use Rattle.wh_algebra.specs.View.{calls_of}
 use Rattle.wh_aggregate.proofs.FaultLemmas.{still, passed_on}
 use Rattle.wh_group.specs.Moves.{Move}
+use Rattle.wh_group.specs.Slots.{kept_groups}
 use Rattle.wh_group.specs.Settling.{befores, afters, pair, IsSettled, Settles}
 use Rattle.wh_group.proofs.WalkLaws.{settling_begun, settling_step, settling_fails, settling_end}
 use Rattle.wh_group.proofs.settling.settled.Goals as goal
 
 pub loop-key-init : goal.loop-key-init
-loop-key-init c = settling_begun (calls_of c.args.calls.now) c.args.groups.now c.into_iter-key-iterator.result _
+loop-key-init c = settling_begun (calls_of c.args.calls.now) (kept_groups c.args.groups.now) c.into_iter-key-iterator.result _
     c.new-2.ensures.items c.in_ok-with_capacity.ensures.items c.new.ensures.items
 
 pub loop-key-preserved : goal.loop-key-preserved
 loop-key-preserved c =
     let at = c.loop-key in
     let e : Row × Move = (c.in-Some.key, c.in-Some.moving) in
-    settling_step (calls_of c.args.calls.now) c.args.groups.now _ at.key-iterator c.next.new.self e at.updated
+    settling_step (calls_of c.args.calls.now) (kept_groups c.args.groups.now) _ at.key-iterator c.next.new.self e at.updated
     c.in-Some.ensures.steps at.invariant c.settle.new.updated c.in_ok-settle.ensures
 
 pub returns-in_err-settle : goal.returns-in_err-settle
 returns-in_err-settle c =
     let calls = calls_of c.args.calls.now in
-    let groups = c.args.groups.now in
+    let groups = kept_groups c.args.groups.now in
     let at = c.loop-key in
     let e : Row × Move = (c.in-Some.key, c.in-Some.moving) in
     let all : entries c.args.touched ≡ c.into_iter-key-iterator.result =
@@ -41,7 +42,7 @@ returns-in_err-settle c =
 pub returns : goal.returns
 returns c =
     let calls = calls_of c.args.calls.now in
-    let groups = c.args.groups.now in
+    let groups = kept_groups c.args.groups.now in
     let at = c.loop-key in
     let all : entries c.args.touched ≡ c.into_iter-key-iterator.result =
     ap entries (sym c.touched.view_is) ∙ entries_in_order row_total c.touched.inside.map.entries c.len.ensures.ordered

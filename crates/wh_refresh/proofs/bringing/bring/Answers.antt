@@ -9,7 +9,8 @@ use Rattle.wh_reply.specs.View.{action_view}
 use Rattle.wh_reply.specs.declared.reply.RefreshAction.{RefreshAction}
 use Rattle.wh_reply.specs.declared.reply.RefreshAction.TheVariants.{NoData, Full, Incremental}
 use Rattle.wh_state.specs.State.{Object, Table, last_rows}
-use Rattle.wh_state.specs.Dynamic.{Dynamic, ids_read}
+use Rattle.wh_state.specs.Dynamic.{Dynamic, GroupsChange, ids_read}
+use Rattle.wh_state.specs.Objects.{table_at, dynamic_at}
 use Rattle.wh_state.specs.Stored.{StoredTable, table_meant}
 use Rattle.wh_state.specs.Moments.{evaluated_at}
 use Rattle.wh_moment.specs.Rebase.{rebase}
@@ -17,13 +18,14 @@ use Rattle.wh_moment.specs.Moment.{brought_to}
 use Rattle.wh_dynamic.specs.View.{dynamic_of}
 use Rattle.wh_machine.specs.Refresh as machine
 use Rattle.wh_machine.specs.Refresh.{brought_by, brought_as, brought_one, has_new_data, by_mode, action_of}
-use Rattle.wh_machine.specs.Brought.{after_all, AreAbove}
+use Rattle.wh_machine.specs.Refresh.{groups_brought}
+use Rattle.wh_machine.specs.Brought.{after_all, AreAbove, sought}
 use Rattle.wh_version.proofs.Among.{each_held}
 use Rattle.wh_table.specs.Table.{table_of, filed_of}
 use Rattle.wh_table.specs.Edited.{IsEdited}
 use Rattle.wh_refresh.specs.Objects.{objects_in, stored_in, filed_at_objects}
 use Rattle.wh_refresh.specs.Brought.{AreBrought, MakesRows, BringsOne}
-use Rattle.wh_refresh.specs.Standing.{HasItsRows, AllStand}
+use Rattle.wh_refresh.specs.Standing.{StandsBy, AllStand}
 use Rattle.wh_refresh.specs.declared.brought.NewRows.{NewRows}
 use Rattle.wh_refresh.proofs.RefreshLemmas.{one_without, one_by}
 use Rattle.wh_refresh.proofs.bringing.bring.Given.{Over}
@@ -57,27 +59,47 @@ later_moment objects moment d action is acts = by_moment d.state.moment refl
         absurd cc
     by_moment (suc m) later = omega arith
 
-has_rows : (g : Over) (c : After-new_rows g) → AllStand (objects_in c.args.objects.now) → (stamp : ℕ)
+stands : (g : Over) (c : After-new_rows g) → AllStand (objects_in c.args.objects.now) → (stamp : ℕ)
     (bs : List machine.Brought) → AreBrought (stored_in c.args.objects.now) c.args.before.now bs → AreAbove 0 bs
-    → c.action-action.result ≡ Incremental
-    → HasItsRows (objects_in c.args.objects.now) (dynamic_of c.in-Some.dynamic.now)
+    → StandsBy c.action-action.result (objects_in c.args.objects.now) (dynamic_of c.in-Some.dynamic.now)
     (table_meant (table_of c.in-Some-table_at.table.now))
-has_rows g c stand stamp bs are above is =
+stands g c stand stamp bs are above =
     let objects = objects_in c.args.objects.now in
     let d = dynamic_of c.in-Some.dynamic.now in
-    stand.each c.args.id d (table_meant (table_of c.in-Some-table_at.table.now)) (sym c.in-Some.ensures)
-    (sym c.in-Some-table_at.ensures.meant)
-    (later_moment (after_all stamp c.args.moment bs objects) c.args.moment d c.action-action.result is
-    (c.action-action.ensures stamp bs are above))
+    record {
+      moment = λ is. later_moment (after_all stamp c.args.moment bs objects) c.args.moment d c.action-action.result is
+          (c.action-action.ensures stamp bs are above);
+      rows = stand.each c.args.id d (table_meant (table_of c.in-Some-table_at.table.now)) (sym c.in-Some.ensures)
+          (sym c.in-Some-table_at.ensures.meant);
+      keyed = stand.keyed c.args.id d (sym c.in-Some.ensures);
+    }
+
+-- the rows of its query, brought to by an action
+abbrev by_rows : List Object → ℕ → ℕ → Dynamic → Table → RefreshAction → Option Bag → Option machine.Brought
+by_rows objects moment id d t action found =
+    option_map (λ rows. brought_as id moment d.state (action_view action) (Some (rebase (last_rows t) rows))
+    (groups_brought objects moment d)) found
 
 -- where there is new data, or no moment yet, its query says what is done
 by_query : (objects : List Object) (moment id : ℕ) (d : Dynamic) (t : Table) (action : RefreshAction)
     → (action ≡ NoData → ⊥) → brought_by objects moment id d t (action_view action)
-    ≡ option_map (λ rows. brought_as id moment d.state (action_view action) (Some (rebase (last_rows t) rows)))
-    (evaluated_at objects moment d)
+    ≡ by_rows objects moment id d t action (evaluated_at objects moment d)
 by_query objects moment id d t NoData some = absurd (some refl)
 by_query objects moment id d t Full some = refl
 by_query objects moment id d t Incremental some = refl
+
+-- so it is behind others that were brought
+found_by : (stamp moment id : ℕ) (bs : List machine.Brought) (objects : List Object) (d : Dynamic) (t : Table)
+    (action : RefreshAction) → AreAbove 0 bs → sought id bs ≡ None → dynamic_at objects id ≡ Some d
+    → table_at objects id ≡ Some t → action_view action ≡ action_of (after_all stamp moment bs objects) moment d
+    → (action ≡ NoData → ⊥) → brought_one (after_all stamp moment bs objects) moment id
+    ≡ by_rows (after_all stamp moment bs objects) moment id d t action
+    (evaluated_at (after_all stamp moment bs objects) moment d)
+found_by stamp moment id bs objects d t action above none is there acts some =
+    let now : List Object = after_all stamp moment bs objects in
+    one_by stamp moment bs objects above id d t none is there
+    ∙ ap (brought_by now moment id d t) (sym acts)
+    ∙ by_query now moment id d t action some
 
 pub returns-in_default-clause-brought : goal.returns-in_default-clause-brought
 returns-in_default-clause-brought g c shown stand stamp bs are above none =
@@ -91,7 +113,7 @@ returns-in-NoData-clause-brought g c shown stand stamp bs are above none =
     let acts : machine.action_of (after_all stamp c.args.moment bs objects) c.args.moment d ≡ reply.NoData =
     sym (c.action-action.ensures stamp bs are above) ∙ ap action_view c.in-NoData.is in
     record {
-      brought = brought_as c.args.id c.args.moment d.state reply.NoData None;
+      brought = brought_as c.args.id c.args.moment d.state reply.NoData None None;
       is = one_by stamp c.args.moment bs objects above c.args.id d t none (sym c.in-Some.ensures)
           (sym c.in-Some-table_at.ensures.meant)
           ∙ ap (brought_by (after_all stamp c.args.moment bs objects) c.args.moment c.args.id d t) acts;
@@ -99,49 +121,50 @@ returns-in-NoData-clause-brought g c shown stand stamp bs are above none =
         id = refl;
         action = sym (ap action_view c.in-NoData.is);
         rows = tt;
+        groups = refl;
         state = sym (c.brought_to-state.ensures ∙ ap (brought_to c.args.moment) c.state.ensures);
       };
     }
 
 pub returns-in_default-found-clause-brought : goal.returns-in_default-found-clause-brought
 returns-in_default-found-clause-brought g c shown stand stamp bs are above none =
+    let after = (goal.at.returns-in_default-found-clause-brought g c).After-new_rows in
     let objects = objects_in c.args.objects.now in
     let now : List Object = after_all stamp c.args.moment bs objects in
     let d = dynamic_of c.in-Some.dynamic.now in
-    let t = table_meant (table_of c.in-Some-table_at.table.now) in
+    let table : StoredTable = table_of c.in-Some-table_at.table.now in
     let nothing : evaluated_at now c.args.moment d ≡ None =
-    none_made (table_of c.in-Some-table_at.table.now) (evaluated_at now c.args.moment d)
-    (subst (λ (rows : Option NewRows). MakesRows rows (table_of c.in-Some-table_at.table.now)
-    (evaluated_at now c.args.moment d))
+    none_made table (evaluated_at now c.args.moment d) (groups_brought now c.args.moment d)
+    (subst (λ (rows : Option NewRows).
+    MakesRows rows table (evaluated_at now c.args.moment d) (groups_brought now c.args.moment d))
     c.in_default-found.is
-    (c.in_ok-found.ensures.made shown
-    (own_shown g (goal.at.returns-in_default-found-clause-brought g c).After-new_rows shown)
-    (has_rows g (goal.at.returns-in_default-found-clause-brought g c).After-new_rows stand stamp bs are above) stamp bs are above)) in
-    one_by stamp c.args.moment bs objects above c.args.id d t none (sym c.in-Some.ensures)
-    (sym c.in-Some-table_at.ensures.meant)
-    ∙ ap (brought_by now c.args.moment c.args.id d t) (sym (c.action-action.ensures stamp bs are above))
-    ∙ by_query now c.args.moment c.args.id d t c.action-action.result c.in_default-action.not-NoData
-    ∙ ap (option_map (λ rows. brought_as c.args.id c.args.moment d.state (action_view c.action-action.result)
-    (Some (rebase (last_rows t) rows)))) nothing
+    (c.in_ok-found.ensures.made shown (own_shown g after shown) (stands g after stand stamp bs are above) stamp bs are
+    above)) in
+    found_by stamp c.args.moment c.args.id bs objects d (table_meant table) c.action-action.result above none
+    (sym c.in-Some.ensures) (sym c.in-Some-table_at.ensures.meant) (c.action-action.ensures stamp bs are above)
+    c.in_default-action.not-NoData
+    ∙ ap (by_rows now c.args.moment c.args.id d (table_meant table) c.action-action.result) nothing
   where
-    none_made : (t : StoredTable) (found : Option Bag) → MakesRows None t found → found ≡ None
-    none_made t None made = refl
-    none_made t (Some bag) made = absurd made
+    none_made : (t : StoredTable) (found : Option Bag) (groups : Option GroupsChange) → MakesRows None t found groups
+        → found ≡ None
+    none_made t None groups made = refl
+    none_made t (Some bag) groups made = absurd made
 
 pub returns-clause-brought : goal.returns-clause-brought
 returns-clause-brought g c shown stand stamp bs are above none =
+    let after = (goal.at.returns-clause-brought g c).After-new_rows in
     let stored = stored_in c.args.objects.now in
     let objects = objects_in c.args.objects.now in
     let now : List Object = after_all stamp c.args.moment bs objects in
     let d = dynamic_of c.in-Some.dynamic.now in
     let table : StoredTable = table_of c.in-Some-table_at.table.now in
     let t = table_meant table in
-    let made = subst (λ (rows : Option NewRows). MakesRows rows table (evaluated_at now c.args.moment d))
-    c.in-Some-found.is (c.in_ok-found.ensures.made shown
-    (own_shown g (goal.at.returns-clause-brought g c).After-new_rows shown)
-    (has_rows g (goal.at.returns-clause-brought g c).After-new_rows stand stamp bs are above) stamp bs are above) in
-    let by_rows : (found : Option Bag) → evaluated_at now c.args.moment d ≡ found
-    → MakesRows (Some c.in-Some-found.rows) table found
+    let groups = groups_brought now c.args.moment d in
+    let made = subst (λ (rows : Option NewRows). MakesRows rows table (evaluated_at now c.args.moment d) groups)
+    c.in-Some-found.is (c.in_ok-found.ensures.made shown (own_shown g after shown)
+    (stands g after stand stamp bs are above) stamp bs are above) in
+    let by_found : (found : Option Bag) → evaluated_at now c.args.moment d ≡ found
+    → MakesRows (Some c.in-Some-found.rows) table found groups
     → BringsOne stored (record {
       id = c.args.id;
       action = c.action-action.result;
@@ -152,13 +175,11 @@ returns-clause-brought g c shown stand stamp bs are above none =
       | None ↦ λ same made. absurd made
       | Some bag ↦ λ same made. record {
         brought = brought_as c.args.id c.args.moment d.state (action_view c.action-action.result)
-            (Some (rebase (last_rows t) bag));
-        is = one_by stamp c.args.moment bs objects above c.args.id d t none (sym c.in-Some.ensures)
-            (sym c.in-Some-table_at.ensures.meant)
-            ∙ ap (brought_by now c.args.moment c.args.id d t) (sym (c.action-action.ensures stamp bs are above))
-            ∙ by_query now c.args.moment c.args.id d t c.action-action.result c.in_default-action.not-NoData
-            ∙ ap (option_map (λ rows. brought_as c.args.id c.args.moment d.state (action_view c.action-action.result)
-            (Some (rebase (last_rows t) rows)))) same;
+            (Some (rebase (last_rows t) bag)) groups;
+        is = found_by stamp c.args.moment c.args.id bs objects d t c.action-action.result above none
+            (sym c.in-Some.ensures) (sym c.in-Some-table_at.ensures.meant)
+            (c.action-action.ensures stamp bs are above) c.in_default-action.not-NoData
+            ∙ ap (by_rows now c.args.moment c.args.id d t c.action-action.result) same;
         same = record {
           id = refl;
           action = refl;
@@ -169,11 +190,12 @@ returns-clause-brought g c shown stand stamp bs are above none =
             plus = made.plus;
             minus = made.minus;
           };
+          groups = made.regrouped;
           state = sym (c.brought_to-state.ensures ∙ ap (brought_to c.args.moment) c.state.ensures);
         };
       }
     ] in
-    by_rows (evaluated_at now c.args.moment d) refl made
+    by_found (evaluated_at now c.args.moment d) refl made
 
 -- ---- where the table's partitions are sound
 

@@ -1,16 +1,14 @@
-use Rattle.std.proofs.Common.{◌≡◌, List, sym, ap, subst, ◌∙◌}
+use Rattle.std.proofs.Common.{ap, ◌∙◌}
 use Rattle.std.specs.List.{AllByRecursion}
 use Rattle.std.proofs.lemmas.Result.{IfOk-weaker}
-use Rattle.wh_meaning.specs.Query.{Instance}
 use Rattle.wh_exec.specs.Source.{filed_in, instance_in}
 use Rattle.wh_filed.specs.Filed.{Filed}
 use Rattle.wh_filed.specs.Fetching.{IsShownBy, IsCovered}
-use Rattle.wh_maintenance.specs.Delta.{AreTurns}
 use Rattle.wh_state.specs.Moments.{instance_at}
 use Rattle.wh_refresh.specs.Objects.{objects_in, filed_at_objects}
 use Rattle.wh_refresh.specs.Sources.{bags_held}
-use Rattle.wh_refresh.proofs.GivenLaws.{sources_hold, bags_are}
-use Rattle.wh_refresh.proofs.MovingLaws.{turns_at}
+use Rattle.wh_refresh.proofs.GivenLaws.{sources_hold}
+use Rattle.wh_refresh.proofs.MovingLaws.{turns_given}
 use Rattle.wh_refresh.proofs.changes.change_by_moves.Given.{Over}
 use Rattle.wh_refresh.proofs.changes.change_by_moves.Goals.{After-deref-4}
 use Rattle.wh_refresh.proofs.changes.change_by_moves.Goals as goal
@@ -48,27 +46,11 @@ returns-clause-change g c = λ shown.
     let to = c.args.to in
     let ids = c.args.ids.now in
     let P = IsShownBy (g.F.Fetch.contents c.args.fetch.now) in
-    let came : instance_in c.deref-3.result.now ≡ bags_held c.in_ok-moved.moved.came.items =
-    ap instance_in c.deref-3.ensures.value ∙ c.in_ok-came.ensures.rows ∙ ap bags_held c.deref.ensures.value in
-    let went : instance_in c.deref-4.result.now ≡ bags_held c.in_ok-moved.moved.went.items =
-    ap instance_in c.deref-4.ensures.value ∙ c.in_ok-went.ensures.rows ∙ ap bags_held c.deref-2.ensures.value in
-    let turns : AreTurns (record {
-      old = instance_at objects from ids;
-      comes = instance_in c.deref-3.result.now;
-      goes = instance_in c.deref-4.result.now;
-    }) (instance_at objects to ids) =
-    subst (λ (e : Instance). AreTurns (record {
-      old = instance_at objects from ids;
-      comes = e;
-      goes = instance_in c.deref-4.result.now;
-    }) (instance_at objects to ids)) (sym came)
-    (subst (λ (e : Instance). AreTurns (record {
-      old = instance_at objects from ids;
-      comes = bags_held c.in_ok-moved.moved.came.items;
-      goes = e;
-    }) (instance_at objects to ids)) (sym went)
-    (turns_at objects from to ids (bags_held c.in_ok-moved.moved.came.items)
-    (bags_held c.in_ok-moved.moved.went.items) c.in_ok-moved.ensures.turns)) in
+    let turns = turns_given objects from to ids (instance_in c.deref-3.result.now) (instance_in c.deref-4.result.now)
+    c.in_ok-moved.moved.came.items c.in_ok-moved.moved.went.items
+    (ap instance_in c.deref-3.ensures.value ∙ c.in_ok-came.ensures.rows ∙ ap bags_held c.deref.ensures.value)
+    (ap instance_in c.deref-4.ensures.value ∙ c.in_ok-went.ensures.rows ∙ ap bags_held c.deref-2.ensures.value)
+    c.in_ok-moved.ensures.turns in
     IfOk-weaker c.linear_delta.result _ _
     (λ found is. λ was has. is (instance_at objects from ids) (instance_at objects to ids) was turns has)
     (c.linear_delta.ensures.change (each_came g P after shown) (each_went g P after shown))

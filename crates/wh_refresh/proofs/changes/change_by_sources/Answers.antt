@@ -1,4 +1,4 @@
-use Rattle.std.proofs.Common.{◌≡◌, ℕ, List, [], Result, Ok, Err, IfOk, ap, subst, ◌∙◌}
+use Rattle.std.proofs.Common.{◌≡◌, ℕ, List, [], ap, subst, ◌∙◌}
 use Rattle.std.specs.List.{AllByRecursion}
 use Rattle.std.proofs.lemmas.Result.{IfOk-weaker}
 use Rattle.wh_meaning.specs.Bag.{Bag}
@@ -9,14 +9,12 @@ use Rattle.wh_exec.specs.Source.{filed_in, instance_in}
 use Rattle.wh_exec.specs.declared.source.Source.{Source}
 use Rattle.wh_filed.specs.Filed.{Filed}
 use Rattle.wh_filed.specs.Fetching.{IsShownBy, IsCovered}
-use Rattle.wh_delta.specs.Moved.{AreNumbered, views_of, moved_in, HoldsFor}
+use Rattle.wh_delta.specs.Moved.{AreNumbered, views_of, HoldsFor}
 use Rattle.wh_delta.specs.Found.{FindsNet}
-use Rattle.wh_delta.proofs.MovedLaws.{filed_views_of}
 use Rattle.wh_state.specs.Moments.{instance_at}
 use Rattle.wh_machine.specs.Brought.{after_all}
 use Rattle.wh_refresh.specs.Objects.{objects_in, filed_at_objects}
-use Rattle.wh_refresh.proofs.PartLaws.{moved_hold}
-use Rattle.wh_refresh.proofs.GivenLaws.{sources_hold, bags_are, views_are, numbered_held}
+use Rattle.wh_refresh.proofs.GivenLaws.{sources_hold, given_hold, bags_are, views_are, numbered_held, under}
 use Rattle.wh_refresh.proofs.changes.change_by_sources.Given.{Over}
 use Rattle.wh_refresh.proofs.changes.change_by_sources.Goals.{After-deref-4}
 use Rattle.wh_refresh.proofs.changes.change_by_sources.Goals as goal
@@ -24,21 +22,8 @@ use Rattle.wh_refresh.proofs.changes.change_by_sources.Goals as goal
 -- what holds of the partitions of both instances holds of those that a change is worked out from
 holds_for : (P : Filed → Type 0) (q : meant.Query) (old new : List Source) → AllByRecursion P (filed_in old)
     → AllByRecursion P (filed_in new) → HoldsFor P q old new
-holds_for P q old new was is = record {
-  comes = moved P new old is;
-  goes = moved P old new was;
-  stays = λ _. was;
-}
-  where
-    moved : (P : Filed → Type 0) (some others : List Source) → AllByRecursion P (filed_in some)
-        → AllByRecursion P (moved_in some others)
-    moved P some others each =
-        moved_hold P (views_of some) (views_of others) (subst (AllByRecursion P) (filed_views_of some) each)
-
--- what is so of an answer where something holds
-under : {A X E : Type 0} (r : Result X E) (P : X → Type 0) → (A → IfOk r P) → IfOk r (λ x. A → P x)
-under (Ok x) P so = so
-under (Err e) P so = tt
+holds_for P q old new was is =
+    record { comes = given_hold P new old is; goes = given_hold P old new was; stays = λ _. was }
 
 module _ (g : Over) where
   each_old : (P : Filed → Type 0) (c : After-deref-4 g) → AllByRecursion P (filed_at_objects c.args.objects.now)

@@ -35,7 +35,7 @@ returns-in_default-clause-rebased g c shown own has stamp bs are above =
     let now = evaluated_at (after_all stamp c.args.moment bs (objects_in c.args.objects.now)) c.args.moment
     (dynamic_of c.args.dynamic.now) in
     nothing_found old was now (subst (λ (f : Option Signed). FindsNet was now f) c.in_default.is
-    (c.in_ok-change.ensures.change shown stamp bs was are above has))
+    (c.in_ok-change.ensures.change shown stamp bs was are above has.rows))
 
 pub rebased_with-requires : goal.rebased_with-requires
 rebased_with-requires g c =
@@ -50,6 +50,6 @@ returns-clause-rebased g c shown own has stamp bs are above =
     (dynamic_of c.args.dynamic.now) in
     change_found old was now c.in-Some.change c.in_ok-rebased.rebased
     (subst (λ (f : Option Signed). FindsNet was now f) c.in-Some.is
-    (c.in_ok-change.ensures.change shown stamp bs was are above has))
+    (c.in_ok-change.ensures.change shown stamp bs was are above has.rows))
     (c.in_ok-rebased.ensures.rebased
     (still_shown _ _ (filed_of c.args.table.now) c.in_ok-change.ensures.same own))

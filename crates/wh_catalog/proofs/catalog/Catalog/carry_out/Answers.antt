@@ -48,6 +48,12 @@ returns-in-SetsDynamic-clause-filed c =
     among_steady c.set_dynamic.result (kept_objects c.args.self.now.objects.items) (kept_objects c.set_dynamic.new.objects.items)
     (filed_in_change c.args.at (change_of c.args.change)) c.set_dynamic.ensures.steady c.set_dynamic.ensures.back
 
+pub returns-in-SetsGroups-clause-filed : goal.returns-in-SetsGroups-clause-filed
+unfolding kept_of
+returns-in-SetsGroups-clause-filed c =
+    among_steady c.set_groups.result (kept_objects c.args.self.now.objects.items) (kept_objects c.set_groups.new.objects.items)
+    (filed_in_change c.args.at (change_of c.args.change)) c.set_groups.ensures.steady c.set_groups.ensures.back
+
 pub returns-in-PushesVersion-clause-filed : goal.returns-in-PushesVersion-clause-filed
 unfolding kept_of
 returns-in-PushesVersion-clause-filed c =

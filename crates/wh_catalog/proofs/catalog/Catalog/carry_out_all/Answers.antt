@@ -1,13 +1,13 @@
 use Rattle.std.proofs.Common.{rules, ◌≡◌, ℕ, ◌∷◌, [], ◌++◌, ◌∙◌, ap, sym, subst, map, length, List, arith}
 use Rattle.std.specs.Vec.Iter.{into_iter_items}
 use Rattle.wh_state.specs.Stored.{StoredObject}
-use Rattle.wh_state.specs.Commit.{AllApply, all_changed, changed}
+use Rattle.wh_state.specs.Commit.{AllApply, all_changed, changed, GroupsFollow}
 use Rattle.wh_filed.specs.Filed.{AreAmong}
 use Rattle.wh_record.specs.View.{UnderstoodChange, change_of}
 use Rattle.wh_record.specs.Places.{filed_in_change, filed_in_changes}
 use Rattle.wh_catalog.specs.Catalog.{kept_of, objects_of, filed_of}
 use Rattle.wh_catalog.specs.Undo.{undone}
-use Rattle.wh_catalog.proofs.Steps.{undone_more}
+use Rattle.wh_catalog.proofs.Steps.{undone_more, follows_on, follows_from}
 use Rattle.wh_catalog.proofs.FiledLaws.{among_more, among_less}
 use Rattle.wh_catalog.proofs.catalog.Catalog.carry_out_all.Goals as goal
 
@@ -29,12 +29,21 @@ loop-change-preserved c =
     ++ filed_in_changes c.args.first (map change_of (into_iter_items c.into_iter-change-iterator.result)) in
     let R : List UnderstoodChange → Type 0 = λ cs.
     AreAmong (filed_of at.self ++ filed_in_changes at.at (map change_of cs)) all in
+    let F : List UnderstoodChange → Type 0 = λ cs.
+    GroupsFollow stamp (objects_of at.self) at.due (map change_of cs) in
     let S : ℕ → Type 0 = λ n.
     AreAmong (filed_of at.self ++ (filed_in_change at.at (change_of change) ++ filed_in_changes n (map change_of rest))) all in
     record {
       apply = λ more. at.invariant.apply (subst P (sym steps) (c.in-Ok-carry_out.ensures.applies, subst Q after more));
       applied =
           λ all. let here : P (change ∷ rest) = subst P steps (at.invariant.applied all) in subst Q (sym after) here.1;
+      follow = λ more. at.invariant.follow (subst F (sym steps)
+          (follows_on stamp (objects_of at.self) (objects_of c.carry_out.new.self) at.due c.groups_due-due.result
+          (change_of change) (map change_of rest) after c.groups_due-due.ensures (search rules) more));
+      followed = λ all.
+          follows_from stamp (objects_of at.self) (objects_of c.carry_out.new.self) at.due c.groups_due-due.result
+          (change_of change) (map change_of rest) after c.groups_due-due.ensures
+          (subst F steps (at.invariant.followed all));
       changed = ap (λ os. all_changed stamp os (map change_of rest)) after
           ∙ ap (λ cs. all_changed stamp (objects_of at.self) (map change_of cs)) (sym steps) ∙ at.invariant.changed;
       filed = among_more (filed_of at.self) (filed_of c.carry_out.new.self) (filed_in_change at.at (change_of change))

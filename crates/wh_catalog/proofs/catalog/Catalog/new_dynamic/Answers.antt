@@ -1,8 +1,10 @@
-use Rattle.std.proofs.Common.{◌∙◌, sym, ◌++◌, ◌∷◌, [], arith}
+use Rattle.std.proofs.Common.{Option, ap, ◌∙◌, sym, ◌++◌, ◌∷◌, [], arith}
 use Rattle.std.proofs.lemmas.List.{length-map}
 use Rattle.wh_value.specs.View.{column_of}
+use Rattle.wh_state.specs.Dynamic.{Kept, new_dynamic}
 use Rattle.wh_state.specs.State.{new_object, DynamicKind}
 use Rattle.wh_state.specs.Commit.{DynamicApplies, changed}
+use Rattle.wh_dynamic.specs.Query.{query_of}
 use Rattle.wh_record.specs.View.{dynamic_change_of}
 use Rattle.wh_table.specs.Table.{kept_table}
 use Rattle.wh_catalog.specs.Catalog.{objects_of}
@@ -28,5 +30,10 @@ returns-clause-applies c =
 
 pub returns-clause-made : goal.returns-clause-made
 unfolding changed kept_table
-returns-clause-made c = λ i. objects_of c.args.self.now
-    ++ new_object c.args.change.name (DynamicKind (c.in-Ok-new.ensures i) (c.empty-table.ensures.table i)) ∷ []
+returns-clause-made c =
+    let change = c.args.change in
+    let made = c.in-Ok-new.ensures.made
+    ∙ ap (λ (kept : Option Kept). new_dynamic change.lag change.is_incremental kept (query_of change.query))
+    c.in-Ok-kept_for.ensures in
+    λ i. objects_of c.args.self.now
+    ++ new_object change.name (DynamicKind (made i) (c.empty-table.ensures.table i)) ∷ []

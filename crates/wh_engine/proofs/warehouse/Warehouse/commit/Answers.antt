@@ -2,6 +2,7 @@ use Rattle.std.proofs.Common.{◌≡◌, ℕ, ◌+◌, ◌-◌, ◌^◌, ◌<◌
 use Rattle.wh_world.specs.Told.{Told}
 use Rattle.wh_fetch.specs.Device.{only_read_none}
 use Rattle.wh_record.specs.View.{commit_of}
+use Rattle.wh_filed.specs.Filed.{AllShown}
 use Rattle.wh_journal.specs.Journal.{IsSame, end_of, limit_of, failed_of, need_of}
 use Rattle.wh_journal.specs.Torn.{SameFront}
 use Rattle.wh_state.specs.State.{State}
@@ -131,13 +132,13 @@ returns-in-Ok-clause-answered g c =
     let j = c.reserve.new.self in
     let k = c.append.new.self in
     let at : ℕ = c.next_place.result in
-    let staged : Staged old.catalog c.stage.new.self commit at =
-    subst (λ (outlined : Commit). Staged old.catalog c.stage.new.self outlined at) c.in_ok-outlined.ensures
+    let staged : Staged old.catalog c.settle.new.self commit at =
+    subst (λ (outlined : Commit). Staged old.catalog c.settle.new.self outlined at) c.in_ok-outlined.ensures
     (record {
       applies = c.in_ok-undo.ensures.applies;
-      applied = c.in_ok-undo.ensures.applied;
-      last = c.in_ok-undo.ensures.last;
-      among = c.in_ok-undo.ensures.filed;
+      applied = c.settle.ensures.stored ∙ c.in_ok-undo.ensures.applied;
+      last = ap (λ (s : State). s.last) c.settle.ensures.state ∙ c.in_ok-undo.ensures.last;
+      among = λ told shown. subst (AllShown told) (sym c.settle.ensures.filed) (c.in_ok-undo.ensures.filed told shown);
     }) in
     let same = c.reserve.ensures.same in
     let spelled = c.in_ok-framed.ensures.payload in
@@ -160,7 +161,7 @@ returns-in-Ok-clause-answered g c =
       place = place_behind old.journal commit at has (omega (arith, c.next_place.ensures, same.end));
       longer = omega (arith, longer);
     } in
-    let stages : Stages old.catalog c.stage.new.self commit at =
+    let stages : Stages old.catalog c.settle.new.self commit at =
     record {
       applies = staged.applies;
       applied = staged.applied;
@@ -169,11 +170,11 @@ returns-in-Ok-clause-answered g c =
     } in
     record {
       stepped = ap (λ (s : State). machine_at s (sessions_of old.sessions))
-          (state_reached old.catalog c.stage.new.self commit staged.applied staged.last);
+          (state_reached old.catalog c.settle.new.self commit staged.applied staged.last);
       stored = staged.applied;
-      filed = filed_append before after old.journal k old.catalog c.stage.new.self commit at c.in-Ok.ensures.told
+      filed = filed_append before after old.journal k old.catalog c.settle.new.self commit at c.in-Ok.ensures.told
           adds_it front behind stages;
-      adds = adds_commit before after old.journal k old.catalog c.stage.new.self commit at adds_it front behind stages;
+      adds = adds_commit before after old.journal k old.catalog c.settle.new.self commit at adds_it front behind stages;
       told = c.in-Ok.ensures.told;
       durable = λ settled. record { each = c.in-Ok.ensures.durable };
       kept = λ e. absurd cc;

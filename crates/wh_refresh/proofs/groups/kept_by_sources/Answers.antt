@@ -1,0 +1,82 @@
+use Rattle.std.proofs.Common.{◌≡◌, ℕ, List, [], ap, subst, ◌∙◌}
+use Rattle.std.specs.List.{AllByRecursion}
+use Rattle.std.proofs.lemmas.Result.{IfOk-weaker}
+use Rattle.wh_meaning.specs.Query.{Instance}
+use Rattle.wh_algebra.specs.View.{query_of as plain_query_of}
+use Rattle.wh_exec.specs.Source.{filed_in, instance_in}
+use Rattle.wh_filed.specs.Filed.{Filed}
+use Rattle.wh_filed.specs.Fetching.{IsShownBy, IsCovered}
+use Rattle.wh_delta.specs.Moved.{AreNumbered, views_of}
+use Rattle.wh_delta.specs.Kept.{KeepsBetween}
+use Rattle.wh_group.specs.Slots.{kept_groups}
+use Rattle.wh_state.specs.Moments.{instance_at}
+use Rattle.wh_machine.specs.Brought.{after_all}
+use Rattle.wh_refresh.specs.Objects.{objects_in, filed_at_objects}
+use Rattle.wh_refresh.proofs.GivenLaws.{sources_hold, given_hold, bags_are, views_are, numbered_held, under}
+use Rattle.wh_refresh.proofs.groups.kept_by_sources.Given.{Over}
+use Rattle.wh_refresh.proofs.groups.kept_by_sources.Goals.{After-deref-4}
+use Rattle.wh_refresh.proofs.groups.kept_by_sources.Goals as goal
+
+module _ (g : Over) where
+  each_old : (P : Filed → Type 0) (c : After-deref-4 g) → AllByRecursion P (filed_at_objects c.args.objects.now)
+      → AllByRecursion P (filed_in c.deref-3.result.now)
+  each_old P c each =
+      sources_hold P (filed_at_objects c.args.objects.now) c.deref-3.result.now c.in_ok-old.old.items
+      c.deref.result.now c.in_ok-stood.stood.items c.deref-3.ensures.value c.in_ok-old.ensures.filed
+      c.deref.ensures.value c.in_ok-stood.ensures.among each
+
+  each_new : (P : Filed → Type 0) (c : After-deref-4 g) → AllByRecursion P (filed_at_objects c.args.objects.now)
+      → AllByRecursion P (filed_in c.deref-4.result.now)
+  each_new P c each =
+      sources_hold P (filed_at_objects c.args.objects.now) c.deref-4.result.now c.in_ok-new.new.items
+      c.deref-2.result.now c.in_ok-held.held.items c.deref-4.ensures.value c.in_ok-new.ensures.filed
+      c.deref-2.ensures.value c.in_ok-held.ensures.among each
+
+pub kept_delta_between-requires-clause-comes : goal.kept_delta_between-requires-clause-comes
+kept_delta_between-requires-clause-comes g c =
+    given_hold (IsCovered (g.F.Fetch.covers c.args.fetch.now)) c.deref-4.result.now c.deref-3.result.now
+    (each_new g _ (goal.at.kept_delta_between-requires-clause-comes g c).After-deref-4 c.requires)
+
+pub kept_delta_between-requires-clause-goes : goal.kept_delta_between-requires-clause-goes
+kept_delta_between-requires-clause-goes g c =
+    given_hold (IsCovered (g.F.Fetch.covers c.args.fetch.now)) c.deref-3.result.now c.deref-4.result.now
+    (each_old g _ (goal.at.kept_delta_between-requires-clause-goes g c).After-deref-4 c.requires)
+
+pub returns-clause-change : goal.returns-clause-change
+returns-clause-change g c = λ shown.
+    let after = (goal.at.returns-clause-change g c).After-deref-4 in
+    let objects = objects_in c.args.objects.now in
+    let q = plain_query_of c.args.query.now in
+    let groups = kept_groups c.args.groups.now in
+    let ids = c.args.ids.now in
+    let P = IsShownBy (g.F.Fetch.contents c.args.fetch.now) in
+    IfOk-weaker c.kept_delta_between.result _ _ (λ found is. λ stamp bs are above.
+    let then : instance_in c.deref-3.result.now ≡ instance_at objects c.args.from ids =
+    bags_are c.deref-3.result.now c.in_ok-old.old.items c.deref.result.now c.in_ok-stood.stood.items _
+    c.deref-3.ensures.value c.in_ok-old.ensures.rows c.deref.ensures.value (c.in_ok-stood.ensures.held 0 [] tt tt) in
+    let now : instance_in c.deref-4.result.now ≡ instance_at (after_all stamp c.args.to bs objects) c.args.to ids =
+    bags_are c.deref-4.result.now c.in_ok-new.new.items c.deref-2.result.now c.in_ok-held.held.items _
+    c.deref-4.ensures.value c.in_ok-new.ensures.rows c.deref-2.ensures.value
+    (c.in_ok-held.ensures.held stamp bs are above) in
+    let numbered : AreNumbered c.deref-3.result.now c.deref-4.result.now =
+    numbered_held c.args.objects.now ids c.in_ok-stood.stood.items c.in_ok-held.held.items
+    (views_of c.deref-3.result.now) (views_of c.deref-4.result.now)
+    (views_are c.deref-3.result.now c.in_ok-old.old.items c.deref.result.now c.in_ok-stood.stood.items
+    c.deref-3.ensures.value c.in_ok-old.ensures.views c.deref.ensures.value)
+    (views_are c.deref-4.result.now c.in_ok-new.new.items c.deref-2.result.now c.in_ok-held.held.items
+    c.deref-4.ensures.value c.in_ok-new.ensures.views c.deref-2.ensures.value) (c.in_ok-stood.ensures.parts [] tt)
+    (c.in_ok-held.ensures.parts bs are) in
+    subst (λ (e : Instance). KeepsBetween q e (instance_at (after_all stamp c.args.to bs objects) c.args.to ids) groups
+    found) then (subst (λ (e : Instance). KeepsBetween q (instance_in c.deref-3.result.now) e groups found) now
+    (is numbered)))
+    (under c.kept_delta_between.result _ (c.kept_delta_between.ensures.change
+    (given_hold P c.deref-4.result.now c.deref-3.result.now (each_new g P after shown))
+    (given_hold P c.deref-3.result.now c.deref-4.result.now (each_old g P after shown))))
+
+pub returns-clause-sound : goal.returns-clause-sound
+returns-clause-sound g c shown =
+    let after = (goal.at.returns-clause-sound g c).After-deref-4 in
+    let P = IsShownBy (g.F.Fetch.contents c.args.fetch.now) in
+    c.kept_delta_between.ensures.sound
+    (given_hold P c.deref-4.result.now c.deref-3.result.now (each_new g P after shown))
+    (given_hold P c.deref-3.result.now c.deref-4.result.now (each_old g P after shown))
