@@ -28,3 +28,6 @@ returns-clause-sound g c = λ comes goes stays. c.carried.ensures.sound (record 
   comes = comes;
   goes = goes;
 })
+
+pub returns-clause-asks : goal.returns-clause-asks
+returns-clause-asks g c = λ is. absurd (sym is ∙ (sym c.is_linear.ensures ∙ c.if-is_linear.false))
