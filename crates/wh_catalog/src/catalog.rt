@@ -43,7 +43,7 @@ impl Catalog {
     ghost use Rattle.wh_task.specs.View.{task_of, tasks_of};
     ghost use Rattle.wh_dynamic.specs.View.{dynamic_of, dynamics_in};
     ghost use Rattle.wh_moment.specs.Upstream.{dynamics_of};
-    ghost use Rattle.wh_catalog.specs.Object.{kept_object, filed_of_objects};
+    ghost use Rattle.wh_catalog.specs.Object.{kept_object, kept_objects, filed_of_objects};
     ghost use Rattle.wh_catalog.specs.Names.{names_of, is_last, last_id};
     ghost use Rattle.wh_state.specs.Objects.{table_at, stream_at, task_at, dynamic_at};
     ghost use Rattle.wh_state.specs.Objects.{live_tasks};
@@ -119,6 +119,7 @@ impl Catalog {
     pub fn objects(&self) -> &[StoredObject]
         ensures objects { map object_in (map kept_object result.now)
             ≡ (stored_of self.now).objects }
+        ensures kept { kept_objects result.now ≡ kept_of self.now }
         ensures filed { filed_of_objects result.now ≡ filed_of self.now }
         ensures bounded { length result.now ≤ bound limits.ObjectIds }
     {

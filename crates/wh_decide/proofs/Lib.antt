@@ -6,6 +6,7 @@ mod TableLemmas
 mod DefineLemmas
 mod StreamLemmas
 pub mod AskLemmas
+pub mod RefreshAskLaws
 mod TaskLemmas
 mod AlterLemmas
 mod DynamicLemmas

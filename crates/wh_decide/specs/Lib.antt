@@ -8,3 +8,4 @@ pub mod Definitions
 pub mod Sources
 pub mod Changes
 pub mod Asked
+pub mod RefreshAsked

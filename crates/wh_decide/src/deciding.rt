@@ -13,6 +13,8 @@ ghost use Rattle.wh_decide.specs.Definitions.{earlier_refusal, reads_rows, IsBou
 ghost use Rattle.wh_decide.specs.Definitions.{IsMeantRead};
 ghost use Rattle.wh_decide.specs.Sight.{machine_in, IsShown, IsSound, Comes, IsReady};
 ghost use Rattle.wh_decide.specs.Asked.{AsksAsBound, AsksAsRequested};
+ghost use Rattle.wh_decide.specs.Decision.{answer_of};
+ghost use Rattle.wh_decide.specs.RefreshAsked.{refresh_bound, refresh_requested, AsksAsReplied};
 
 use crate::altering::{drop_task, execute_task, resume_task, suspend_task};
 use crate::changes::change_rows;
@@ -52,6 +54,9 @@ pub fn decide_command<D: Disk>(
     ensures ready { IfOk result (λ decision. IsReady sight.now decision) }
     ensures asks { AsksAsRequested sight.now.catalog.now (machine_in sight.now) sight.now.session
         (request_of text.now) fetch.old.asked.items fetch.new.asked.items }
+    ensures fetches { IfOk result (λ decision. AsksAsReplied sight.now.catalog.now
+        (refresh_requested (machine_in sight.now) (request_of text.now))
+        fetch.old.asked.items fetch.new.asked.items (answer_of decision)) }
     ensures sound { IsShown (told_of D.Disk fetch.old) sight.now
         → damage_of fetch.new ≡ damage_of fetch.old }
     ensures same { told_of D.Disk fetch.new ≡ told_of D.Disk fetch.old }
@@ -88,6 +93,9 @@ fn decide_tree<D: Disk>(
         → IfOk result (λ decision. IsReady sight.now decision) }
     ensures asks { AsksAsRequested sight.now.catalog.now (machine_in sight.now) sight.now.session
         (Asked statement.now) fetch.old.asked.items fetch.new.asked.items }
+    ensures fetches { IfOk result (λ decision. AsksAsReplied sight.now.catalog.now
+        (refresh_requested (machine_in sight.now) (Asked statement.now))
+        fetch.old.asked.items fetch.new.asked.items (answer_of decision)) }
     ensures sound { IsShown (told_of D.Disk fetch.old) sight.now
         → damage_of fetch.new ≡ damage_of fetch.old }
     ensures same { told_of D.Disk fetch.new ≡ told_of D.Disk fetch.old }
@@ -150,7 +158,7 @@ fn earlier_refusal(sight: &Sight<'_>, statement: &Statement) -> Option<Refusal>
 }
 
 // What a statement comes to that nothing is found wrong with.
-#[tactic(auto, using(crate::proofs::AskLemmas::bound_unasked), unfolding(wh_machine::specs::Statements::carried_out))]
+#[tactic(auto, using(crate::proofs::AskLemmas::bound_unasked, crate::proofs::RefreshAskLaws::unbound_asks), unfolding(wh_machine::specs::Statements::carried_out))]
 fn decide_bound<D: Disk>(
     alloc: Global,
     sight: &Sight<'_>,
@@ -167,6 +175,9 @@ fn decide_bound<D: Disk>(
     ensures asks { AsksAsBound sight.now.catalog.now
         (start_in (machine_in sight.now) sight.now.session) (bound_of statement)
         fetch.old.asked.items fetch.new.asked.items }
+    ensures fetches { IfOk result (λ decision. AsksAsReplied sight.now.catalog.now
+        (refresh_bound sight.now.stamp (bound_of statement))
+        fetch.old.asked.items fetch.new.asked.items (answer_of decision)) }
     ensures sound { IsShown (told_of D.Disk fetch.old) sight.now
         → damage_of fetch.new ≡ damage_of fetch.old }
     ensures same { told_of D.Disk fetch.new ≡ told_of D.Disk fetch.old }

@@ -15,6 +15,7 @@ ghost use Rattle.wh_machine.specs.Tables.{one_if};
 ghost use Rattle.wh_record.specs.View.{change_of};
 ghost use Rattle.wh_catalog.specs.Catalog.{stored_of, state_of};
 ghost use Rattle.wh_txn.specs.View.{sessions_of};
+ghost use Rattle.wh_decide.specs.Decision.{answer_of};
 ghost use Rattle.wh_decide.specs.Definitions.{drops_written};
 ghost use Rattle.wh_decide.specs.Sight.{machine_in, Comes, IsReady};
 
@@ -84,6 +85,7 @@ pub(crate) fn defined(sight: &Sight<'_>, reply: Reply, changes: Vec<Change>) -> 
     ensures comes { (acts : List Act) → map change_of changes.items
         ≡ written sight.now.stamp (stored_of sight.now.catalog.now).objects acts
         → Comes sight.now result (commits (machine_in sight.now) (reply_view reply) acts) }
+    ensures reply { answer_of result ≡ reply_view reply }
     ensures ready { AllByRecursion IsUnderstood (map change_of changes.items)
         → IsReady sight.now result }
 {

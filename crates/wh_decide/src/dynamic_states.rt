@@ -1,5 +1,6 @@
 //! ALTER DYNAMIC TABLE, and refreshes.
-ghost use Rattle.std.specs.Prelude.{◌≡◌, ◌≤◌, ◌∷◌, [], Some, None, map, option_map, IfOk};
+ghost use Rattle.std.specs.Prelude.{◌≡◌, ◌≤◌, ◌∷◌, [], ℕ, List, Some, None, map, option_map, IfOk};
+ghost use Rattle.wh_part.specs.declared.meta.PartId.{PartId};
 ghost use Rattle.wh_fetch.specs.Device.{Counts};
 ghost use Rattle.wh_fetch.specs.DiskFetch.{told_of, faults_of, damage_of, IsRight, GoesOn};
 ghost use Rattle.wh_value.specs.Limit.{bound};
@@ -12,10 +13,13 @@ ghost use Rattle.wh_machine.specs.Dynamics as machine;
 ghost use Rattle.wh_machine.specs.Refresh as refreshes;
 ghost use Rattle.wh_dynamic.specs.View as view;
 ghost use Rattle.wh_record.specs.View.{change_of};
+ghost use Rattle.wh_catalog.specs.declared.catalog.Catalog.{Catalog};
 ghost use Rattle.wh_catalog.specs.Catalog.{stored_of, state_of};
 ghost use Rattle.wh_refresh.specs.Refreshing.{besides, RefreshesAs, AreRead};
 ghost use Rattle.wh_decide.specs.Dynamics.{put_written, put_written_to};
 ghost use Rattle.wh_decide.specs.Dynamics.{resumed_state, suspended_state, lag_state};
+ghost use Rattle.wh_decide.specs.Decision.{answer_of};
+ghost use Rattle.wh_decide.specs.RefreshAsked.{AsksToBring, AsksAsReplied};
 ghost use Rattle.wh_decide.specs.Sight.{machine_in, IsShown, IsSound, Comes, IsReady};
 
 use crate::decision::Decision;
@@ -207,6 +211,9 @@ pub(crate) fn refresh_dynamic<D: Disk>(
         (defines (machine_in sight.now) sight.now.session None
         (machine.refresh_dynamic (machine_in sight.now) None id))) }
     ensures ready { IfOk result (λ decision. IsReady sight.now decision) }
+    ensures fetches { IfOk result (λ decision. AsksAsReplied sight.now.catalog.now
+        (Some (id, sight.now.stamp)) fetch.old.asked.items fetch.new.asked.items
+        (answer_of decision)) }
     ensures sound { IsShown (told_of D.Disk fetch.old) sight.now
         → damage_of fetch.new ≡ damage_of fetch.old }
     ensures same { told_of D.Disk fetch.new ≡ told_of D.Disk fetch.old }
@@ -225,6 +232,9 @@ fn refreshed(sight: &Sight<'_>, found: Refreshing) -> Decision
         (stored_of sight.now.catalog.now).objects found outcome
         → Comes sight.now result (machine.refreshed_by (machine_in sight.now) outcome) }
     ensures ready { AreRead found → IsReady sight.now result }
+    ensures fetches { (c : Catalog) (id moment : ℕ) (before after : List PartId)
+        → AsksToBring c id moment before after found
+        → AsksAsReplied c (Some (id, moment)) before after (answer_of result) }
 {
     match found {
         Refreshing::Fails(why) => Decision::Refuse(why),
@@ -251,6 +261,8 @@ fn refreshing<D: Disk>(
         (refreshes.refresh (machine_in sight.now).state
         (besides asked (state_of sight.now.catalog.now).objects id) id moment)) }
     ensures read { IfOk result (λ found. AreRead found) }
+    ensures fetches { IfOk result (AsksToBring sight.now.catalog.now id moment
+        fetch.old.asked.items fetch.new.asked.items) }
     ensures sound { IsShown (told_of D.Disk fetch.old) sight.now
         → damage_of fetch.new ≡ damage_of fetch.old }
     ensures same { told_of D.Disk fetch.new ≡ told_of D.Disk fetch.old }
@@ -276,6 +288,8 @@ pub fn scheduled_refresh<D: Disk>(
         → IfOk result (λ decision. Comes sight.now decision
         (machine.scheduled (machine_in sight.now) id target)) }
     ensures ready { IfOk result (λ decision. IsReady sight.now decision) }
+    ensures fetches { IfOk result (λ decision. AsksAsReplied sight.now.catalog.now
+        (Some (id, target)) fetch.old.asked.items fetch.new.asked.items (answer_of decision)) }
     ensures sound { IsShown (told_of D.Disk fetch.old) sight.now
         → damage_of fetch.new ≡ damage_of fetch.old }
     ensures same { told_of D.Disk fetch.new ≡ told_of D.Disk fetch.old }

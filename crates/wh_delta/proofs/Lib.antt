@@ -6,3 +6,4 @@ pub mod Places
 pub mod Rising
 pub mod FoundLaws
 pub mod KeptLaws
+pub mod AskedLaws

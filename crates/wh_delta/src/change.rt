@@ -1,6 +1,7 @@
-ghost use Rattle.std.specs.Prelude.{◌≡◌, Some, true, false, IfOk};
+ghost use Rattle.std.specs.Prelude.{◌≡◌, Some, true, false, IfOk, OnOk};
 ghost use Rattle.wh_fetch.specs.Device.{Counts};
 ghost use Rattle.wh_filed.specs.Fetching.{IsShownBy, AllShownBy, IsCovered, AllCovered};
+ghost use Rattle.wh_filed.specs.Asking.{AsksAmong};
 ghost use Rattle.wh_meaning.specs.Bag.{Bag, bag_of};
 ghost use Rattle.wh_meaning.specs.BagChange.{IsNet};
 ghost use Rattle.wh_meaning.specs.Query.{Instance, eval};
@@ -10,6 +11,7 @@ ghost use Rattle.wh_maintenance.specs.Delta.{Carries, AreTurns};
 ghost use Rattle.wh_maintenance.specs.Delta as changes;
 ghost use Rattle.wh_delta.specs.Moves.{turning, change_found};
 ghost use Rattle.wh_delta.specs.Moved.{AreNumbered, HoldsFor};
+ghost use Rattle.wh_delta.specs.Asked.{asked_over, asked_between};
 ghost use Rattle.wh_delta.specs.Found.{FindsNet, IsApart};
 
 use crate::carrying::carried;
@@ -42,6 +44,9 @@ pub fn delta<F: Fetch>(
     ensures apart { IfOk result IsApart }
     ensures sound { HoldsFor (IsShownBy (F.contents fetch.old)) (query_of query.now) old.now new.now
         → F.damage fetch.new ≡ F.damage fetch.old }
+    ensures asks { changes.linear (query_of query.now) ≡ true → OnOk result
+        (AsksAmong (asked_between (query_of query.now) old.now new.now)
+        (F.asked fetch.old) (F.asked fetch.new)) }
     ensures same { F.contents fetch.new ≡ F.contents fetch.old }
     ensures goes { F.stays fetch.old fetch.new }
     ensures counts { Counts (F.faults fetch.old) (F.faults fetch.new) result }
@@ -78,6 +83,8 @@ pub fn linear_delta<F: Fetch>(
     ensures sound { AllShownBy (F.contents fetch.old) (filed_in comes.now)
         → AllShownBy (F.contents fetch.old) (filed_in goes.now)
         → F.damage fetch.new ≡ F.damage fetch.old }
+    ensures asks { OnOk result (AsksAmong (asked_over (query_of query.now) comes.now goes.now)
+        (F.asked fetch.old) (F.asked fetch.new)) }
     ensures same { F.contents fetch.new ≡ F.contents fetch.old }
     ensures goes { F.stays fetch.old fetch.new }
     ensures counts { Counts (F.faults fetch.old) (F.faults fetch.new) result }
@@ -112,6 +119,9 @@ fn moves_of<F: Fetch>(
         → (changes.linear (query_of query.now) ≡ false
         → AllShownBy (F.contents fetch.old) (filed_in old.now))
         → F.damage fetch.new ≡ F.damage fetch.old }
+    ensures asks { changes.linear (query_of query.now) ≡ true → OnOk result
+        (AsksAmong (asked_over (query_of query.now) comes.now goes.now)
+        (F.asked fetch.old) (F.asked fetch.new)) }
     ensures same { F.contents fetch.new ≡ F.contents fetch.old }
     ensures goes { F.stays fetch.old fetch.new }
     ensures counts { Counts (F.faults fetch.old) (F.faults fetch.new) result }

@@ -1,7 +1,8 @@
 //! Changes of a query whose groups are kept: its input is not read again.
-ghost use Rattle.std.specs.Prelude.{◌≡◌, Some, IfOk};
+ghost use Rattle.std.specs.Prelude.{◌≡◌, Some, IfOk, OnOk};
 ghost use Rattle.wh_fetch.specs.Device.{Counts};
 ghost use Rattle.wh_filed.specs.Fetching.{AllShownBy, AllCovered};
+ghost use Rattle.wh_filed.specs.Asking.{AsksAmong};
 ghost use Rattle.wh_meaning.specs.Query.{Instance};
 ghost use Rattle.wh_algebra.specs.View.{query_of};
 ghost use Rattle.wh_exec.specs.Source.{instance_in, filed_in};
@@ -10,6 +11,7 @@ ghost use Rattle.wh_group.specs.Slots.{kept_groups};
 ghost use Rattle.wh_group.specs.Updates.{change_of};
 ghost use Rattle.wh_delta.specs.Moves.{turning, change_found};
 ghost use Rattle.wh_delta.specs.Moved.{AreNumbered, moved_in};
+ghost use Rattle.wh_delta.specs.Asked.{asked_over, asked_between};
 ghost use Rattle.wh_delta.specs.Kept.{Keeps, KeepsBetween};
 
 use crate::change::signed;
@@ -54,6 +56,8 @@ pub fn kept_delta<F: Fetch>(
     ensures sound { AllShownBy (F.contents fetch.old) (filed_in comes.now)
         → AllShownBy (F.contents fetch.old) (filed_in goes.now)
         → F.damage fetch.new ≡ F.damage fetch.old }
+    ensures asks { OnOk result (AsksAmong (asked_over (query_of query.now) comes.now goes.now)
+        (F.asked fetch.old) (F.asked fetch.new)) }
     ensures same { F.contents fetch.new ≡ F.contents fetch.old }
     ensures goes { F.stays fetch.old fetch.new }
     ensures counts { Counts (F.faults fetch.old) (F.faults fetch.new) result }
@@ -102,6 +106,8 @@ pub fn kept_delta_between<F: Fetch>(
     ensures sound { AllShownBy (F.contents fetch.old) (moved_in new.now old.now)
         → AllShownBy (F.contents fetch.old) (moved_in old.now new.now)
         → F.damage fetch.new ≡ F.damage fetch.old }
+    ensures asks { OnOk result (AsksAmong (asked_between (query_of query.now) old.now new.now)
+        (F.asked fetch.old) (F.asked fetch.new)) }
     ensures same { F.contents fetch.new ≡ F.contents fetch.old }
     ensures goes { F.stays fetch.old fetch.new }
     ensures counts { Counts (F.faults fetch.old) (F.faults fetch.new) result }

@@ -1,11 +1,14 @@
 //! What queries give over sources whose partitions are read.
-ghost use Rattle.std.specs.Prelude.{◌≡◌, IfOk};
+ghost use Rattle.std.specs.Prelude.{◌≡◌, IfOk, OnOk};
 ghost use Rattle.wh_fetch.specs.Device.{Counts};
 ghost use Rattle.wh_filed.specs.Fetching.{AllShownBy, AllCovered};
+ghost use Rattle.wh_filed.specs.Asking.{AsksAmong};
 ghost use Rattle.wh_meaning.specs.Query.{eval};
 ghost use Rattle.wh_algebra.specs.View.{query_of};
 ghost use Rattle.wh_exec.specs.Source.{instance_in, filed_in};
 ghost use Rattle.wh_maintenance.specs.Carried.{sided};
+ghost use Rattle.wh_exec.specs.Asked.{filed_by, asked_for};
+ghost use Rattle.wh_delta.specs.Asked.{asked_over};
 ghost use Rattle.wh_delta.specs.Moves.{rows_bag, NetsTo};
 
 use crate::at_hand::rows_found;
@@ -36,6 +39,8 @@ pub(crate) fn net_over<F: Fetch>(
     ensures sound { AllShownBy (F.contents fetch.old) (filed_in comes.now)
         → AllShownBy (F.contents fetch.old) (filed_in goes.now)
         → F.damage fetch.new ≡ F.damage fetch.old }
+    ensures asks { OnOk result (AsksAmong (asked_over (query_of query.now) comes.now goes.now)
+        (F.asked fetch.old) (F.asked fetch.new)) }
     ensures same { F.contents fetch.new ≡ F.contents fetch.old }
     ensures goes { F.stays fetch.old fetch.new }
     ensures counts { Counts (F.faults fetch.old) (F.faults fetch.new) result }
@@ -62,6 +67,8 @@ pub(crate) fn rows_of<F: Fetch>(
         (λ found. rows_bag found ≡ eval (query_of query.now) (instance_in sources.now)) }
     ensures sound { AllShownBy (F.contents fetch.old) (filed_in sources.now)
         → F.damage fetch.new ≡ F.damage fetch.old }
+    ensures asks { OnOk result (AsksAmong (asked_for (query_of query.now) (filed_by sources.now))
+        (F.asked fetch.old) (F.asked fetch.new)) }
     ensures same { F.contents fetch.new ≡ F.contents fetch.old }
     ensures goes { F.stays fetch.old fetch.new }
     ensures counts { Counts (F.faults fetch.old) (F.faults fetch.new) result }

@@ -29,21 +29,25 @@ module _ {D : Type 0} {seen : Ghosts D} where
       subst (AsksInEvent old.catalog (decided_at old e) e []) (sym is.asked)
       (event_unasked old.catalog (decided_at old e) e [])
 
-  pub asked_behind : (old begun new : Warehouse D seen) (e : Event) (stamp : ℕ) → IsOnlyRead old new → IsBegun begun
+  -- whatever is said of it
+  pub asked_behind : (Asks : Catalog → Machine → List PartId → List PartId → Type 0) (old begun new : Warehouse D seen)
+      (e : Event) (stamp : ℕ)
+      → IsOnlyRead old new
+      → IsBegun begun
       → stamp ≡ stamp_of (state_of old.catalog) (reading_of e)
-      → AsksInEvent new.catalog (machine_at (stamped (state_of new.catalog) stamp) (sessions_of new.sessions)) e
+      → Asks new.catalog (machine_at (stamped (state_of new.catalog) stamp) (sessions_of new.sessions))
       (fetched_of begun) (fetched_of new)
-      → AsksInEvent old.catalog (decided_at old e) e [] (fetched_of new)
-  asked_behind old begun new e stamp same is at asks =
-      subst (λ (names : List PartId). AsksInEvent old.catalog (decided_at old e) e names (fetched_of new)) is.asked
-      (subst (λ (n : ℕ). AsksInEvent old.catalog
-      (machine_at (stamped (state_of old.catalog) n) (sessions_of old.sessions)) e (fetched_of begun) (fetched_of new)) at
-      (subst (λ (s : Sessions). AsksInEvent old.catalog (machine_at (stamped (state_of old.catalog) stamp) (sessions_of s)) e
+      → Asks old.catalog (decided_at old e) [] (fetched_of new)
+  asked_behind Asks old begun new e stamp same is at asks =
+      subst (λ (names : List PartId). Asks old.catalog (decided_at old e) names (fetched_of new)) is.asked
+      (subst (λ (n : ℕ). Asks old.catalog
+      (machine_at (stamped (state_of old.catalog) n) (sessions_of old.sessions)) (fetched_of begun) (fetched_of new)) at
+      (subst (λ (s : Sessions). Asks old.catalog (machine_at (stamped (state_of old.catalog) stamp) (sessions_of s))
       (fetched_of begun) (fetched_of new)) same.sessions
-      (subst (λ (c : Catalog). AsksInEvent c (machine_at (stamped (state_of c) stamp) (sessions_of new.sessions)) e
+      (subst (λ (c : Catalog). Asks c (machine_at (stamped (state_of c) stamp) (sessions_of new.sessions))
       (fetched_of begun) (fetched_of new)) same.catalog asks)))
 
-  pub asked_still : (old new last : Warehouse D seen) (e : Event) → ReadsNothing new last
-      → AsksInEvent old.catalog (decided_at old e) e [] (fetched_of new)
-      → AsksInEvent old.catalog (decided_at old e) e [] (fetched_of last)
-  asked_still old new last e nothing asks = subst (AsksInEvent old.catalog (decided_at old e) e []) (sym nothing.asked) asks
+  pub asked_still : (Asks : List PartId → Type 0) (new last : Warehouse D seen) → ReadsNothing new last
+      → Asks (fetched_of new)
+      → Asks (fetched_of last)
+  asked_still Asks new last nothing asks = subst Asks (sym nothing.asked) asks

@@ -26,7 +26,8 @@ impl<D: Disk> Warehouse<D> {
     ghost use Rattle.wh_txn.specs.Recording.{IsAt, IsRead};
     ghost use Rattle.wh_decide.specs.Event.{event_of};
     ghost use Rattle.wh_decide.specs.Asked.{AsksInEvent};
-    ghost use Rattle.wh_decide.specs.Decision.{commit_in, sessions_after, settlement_of};
+    ghost use Rattle.wh_decide.specs.RefreshAsked.{refresh_in, AsksAsReplied};
+    ghost use Rattle.wh_decide.specs.Decision.{commit_in, sessions_after, settlement_of, answer_of};
     ghost use Rattle.wh_decide.specs.Decision.{machine_at, Decides, CanSettle};
     ghost use Rattle.wh_engine.specs.Fault.{halt_of_fetch};
     ghost use Rattle.wh_engine.specs.Warehouse.{made_in, led_to, state_with};
@@ -55,6 +56,9 @@ impl<D: Disk> Warehouse<D> {
         ensures stopped { IfErr result (HaltedSome self.old self.new) }
         ensures asks { AsksInEvent self.old.catalog (decided_at self.old (event_of event.now))
             (event_of event.now) [] (fetched_of self.new) }
+        ensures fetches { IfOk result (λ reply. AsksAsReplied self.old.catalog
+            (refresh_in (decided_at self.old (event_of event.now)) (event_of event.now))
+            [] (fetched_of self.new) (reply_view reply)) }
         ensures reads { ReadsOnceEach self.old self.new }
         ensures limit { limit_of self.new.journal ≡ limit_of self.old.journal }
     {
@@ -96,6 +100,10 @@ impl<D: Disk> Warehouse<D> {
         ensures asks { AsksInEvent self.new.catalog
             (machine_at (stamped (state_of self.new.catalog) stamp) (sessions_of self.new.sessions))
             (event_of event.now) (fetched_of self.old) (fetched_of self.new) }
+        ensures fetches { IfOk result (λ decision. AsksAsReplied self.new.catalog
+            (refresh_in (machine_at (stamped (state_of self.new.catalog) stamp)
+            (sessions_of self.new.sessions)) (event_of event.now))
+            (fetched_of self.old) (fetched_of self.new) (answer_of decision)) }
         ensures same { IsOnlyRead self.old self.new }
         ensures reads { ReadsOnceEach self.old self.new }
         ensures no_fault { OnOk result

@@ -12,3 +12,4 @@ mod PartLaws
 pub mod SourceLaws
 mod FeedLaws
 mod Sizes
+mod AskLaws

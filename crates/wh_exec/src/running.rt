@@ -1,9 +1,11 @@
-ghost use Rattle.std.specs.Prelude.{◌≡◌, IfOk};
+ghost use Rattle.std.specs.Prelude.{◌≡◌, IfOk, OnOk};
 ghost use Rattle.wh_fetch.specs.Device.{Counts};
 ghost use Rattle.wh_filed.specs.Fetching.{AllShownBy, AllCovered};
+ghost use Rattle.wh_filed.specs.Asking.{AsksAmong};
 ghost use Rattle.wh_meaning.specs.Query.{eval};
 ghost use Rattle.wh_algebra.specs.Plan.{plan_of};
 ghost use Rattle.wh_exec.specs.Source.{instance_in, filed_in, bag_found};
+ghost use Rattle.wh_exec.specs.Asked.{filed_by, asked_for};
 
 use crate::Source;
 use crate::feeding::gather;
@@ -27,6 +29,8 @@ pub fn run<'a, F: Fetch>(
         ≡ eval (plan_of plan.now) (instance_in sources.now)) }
     ensures sound { AllShownBy (F.contents fetch.old) (filed_in sources.now)
         → F.damage fetch.new ≡ F.damage fetch.old }
+    ensures asks { OnOk result (AsksAmong (asked_for (plan_of plan.now) (filed_by sources.now))
+        (F.asked fetch.old) (F.asked fetch.new)) }
     ensures same { F.contents fetch.new ≡ F.contents fetch.old }
     ensures goes { F.stays fetch.old fetch.new }
     ensures counts { Counts (F.faults fetch.old) (F.faults fetch.new) result }

@@ -1,12 +1,14 @@
 //! The rows of a query, by its plan.
-ghost use Rattle.std.specs.Prelude.{◌≡◌, option_map, IfOk};
+ghost use Rattle.std.specs.Prelude.{◌≡◌, option_map, IfOk, OnOk};
 ghost use Rattle.wh_fetch.specs.Device.{Counts};
 ghost use Rattle.wh_filed.specs.Fetching.{AllShownBy, AllCovered};
+ghost use Rattle.wh_filed.specs.Asking.{AsksAmong};
 ghost use Rattle.wh_meaning.specs.Listing.{listed};
 ghost use Rattle.wh_meaning.specs.Query.{eval};
 ghost use Rattle.wh_algebra.specs.View.{query_of};
 ghost use Rattle.wh_listing.specs.View.{keys_of};
 ghost use Rattle.wh_exec.specs.Source.{bag_found, filed_in, instance_in};
+ghost use Rattle.wh_exec.specs.Asked.{filed_by, asked_for};
 ghost use Rattle.wh_plan.specs.Rows.{rows_found};
 
 use crate::plan;
@@ -29,6 +31,8 @@ pub fn answered<'a, F: Fetch>(
         (λ found. bag_found found ≡ eval (query_of query.now) (instance_in sources.now)) }
     ensures sound { AllShownBy (F.contents fetch.old) (filed_in sources.now)
         → F.damage fetch.new ≡ F.damage fetch.old }
+    ensures asks { OnOk result (AsksAmong (asked_for (query_of query.now) (filed_by sources.now))
+        (F.asked fetch.old) (F.asked fetch.new)) }
     ensures same { F.contents fetch.new ≡ F.contents fetch.old }
     ensures goes { F.stays fetch.old fetch.new }
     ensures counts { Counts (F.faults fetch.old) (F.faults fetch.new) result }
@@ -51,6 +55,8 @@ pub fn answered_in_order<F: Fetch>(
         (eval (query_of query.now) (instance_in sources.now))) }
     ensures sound { AllShownBy (F.contents fetch.old) (filed_in sources.now)
         → F.damage fetch.new ≡ F.damage fetch.old }
+    ensures asks { OnOk result (AsksAmong (asked_for (query_of query.now) (filed_by sources.now))
+        (F.asked fetch.old) (F.asked fetch.new)) }
     ensures same { F.contents fetch.new ≡ F.contents fetch.old }
     ensures goes { F.stays fetch.old fetch.new }
     ensures counts { Counts (F.faults fetch.old) (F.faults fetch.new) result }

@@ -9,3 +9,5 @@ mod GivenLaws
 mod HeldLaws
 mod GroupLaws
 pub mod StandLaws
+mod MovesLaws
+mod AskLaws

@@ -1,9 +1,12 @@
 -- Partitions of a table that sources hold at two moments.
+--     AreNumberedFrom        numbers that rise by one
 --     numbers_at             the partitions that an object has in the file are numbered from 1 on
+--     once                   those that are apart stand once
+--     all_back               what holds of each of two lists holds of each behind
 --     part_none, part_alone, part_front     parts of them
 --     parts_more             the sources of ids, with one more
 --     all_numbered           sources of the same ids are told apart by these numbers
---     moved_hold             what holds of the partitions of sources holds of those that moved
+--     only_hold, moved_hold  what holds of the partitions of sources holds of those that moved
 use Rattle.std.proofs.Common.{◌≡◌, ℕ, zero, suc, ◌+◌, ◌<◌, ◌≤◌, inl, inr, Bool, true, false, cond, List, [], ◌∷◌, ◌++◌}
 use Rattle.std.proofs.Common.{length, take, get_or, Contains, IsTrue, Option, Some, None, refl, sym, ap, subst}
 use Rattle.std.proofs.Common.{◌∙◌, arith}
@@ -36,10 +39,10 @@ use Rattle.wh_refresh.specs.declared.sources.SourceHeld.{SourceHeld}
 
 -- ---- numbers
 
-abbrev AreNumberedFrom : ℕ → List Filed → Type 0
+abbrev pub AreNumberedFrom : ℕ → List Filed → Type 0
 AreNumberedFrom next all = IsTrue (numbered_from next (partitions_filed all))
 
-numbers_at : (objects : List (Bor StoredObject)) (id : ℕ) → AreNumberedFrom 1 (filed_at_id objects id)
+pub numbers_at : (objects : List (Bor StoredObject)) (id : ℕ) → AreNumberedFrom 1 (filed_at_id objects id)
 unfolding kept_table
 numbers_at objects id = by_found (at_id objects id)
   where
@@ -123,7 +126,7 @@ module _ (all : List Filed) (numbers : AreNumberedFrom 1 all) where
           apart.0))
       by_test false same = refl
 
-  once : (before : List Partition) (fs : List Filed) → AllByRecursion (Contains all) fs
+  pub once : (before : List Partition) (fs : List Filed) → AllByRecursion (Contains all) fs
       → AllByRecursion HasRisingRows (partitions_filed fs) → AllApart before (partitions_filed fs)
       → IsDistinct same_number fs
   once before [] among rising apart = tt
@@ -167,7 +170,7 @@ all_front : {X : Type 0} (P : X → Type 0) (xs ys : List X) → AllByRecursion 
 all_front P [] ys each = tt
 all_front P (x ∷ xs) ys each = (each.0, all_front P xs ys each.1)
 
-all_back : {X : Type 0} (P : X → Type 0) (xs ys : List X) → AllByRecursion P (xs ++ ys) → AllByRecursion P ys
+pub all_back : {X : Type 0} (P : X → Type 0) (xs ys : List X) → AllByRecursion P (xs ++ ys) → AllByRecursion P ys
 all_back P [] ys each = each
 all_back P (x ∷ xs) ys each = all_back P xs ys each.1
 
@@ -217,7 +220,7 @@ module _ (objects : List (Bor StoredObject)) where
 -- ---- those that moved
 
 module _ (P : Filed → Type 0) where
-  only_hold : (some others : List Filed) → AllByRecursion P some → AllByRecursion P (only_in some others)
+  pub only_hold : (some others : List Filed) → AllByRecursion P some → AllByRecursion P (only_in some others)
   only_hold [] others each = tt
   only_hold (f ∷ fs) others each = by_test (not (has same_number others f)) (only_hold fs others each.1)
     where

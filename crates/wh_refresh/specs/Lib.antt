@@ -1,4 +1,5 @@
 pub mod Walk
+pub mod Asked
 pub mod Objects
 pub mod Sources
 pub mod Rebased

@@ -4,14 +4,14 @@
 --     objects_at                as references point to them
 --     filed_at_objects          the partitions that they have in the file
 --     filed_one, filed_at_id    those of one of them, and of the one of an id
---     with_made, stored_made, filed_made     one that is to be made, if there is one
+--     with_made, stored_made, kept_made, filed_made     one that is to be made, if there is one
 use Rattle.std.specs.Prelude.{ℕ, List, [], ◌∷◌, map, Option, Some, None}
 use denote.Ref.{Bor}
 use Rattle.std.specs.Option.{option_map_or}
 use Rattle.wh_state.specs.State.{Object, at_id}
 use Rattle.wh_state.specs.Stored as machine
 use Rattle.wh_filed.specs.Filed.{Filed}
-use Rattle.wh_catalog.specs.Undoable.{object_in}
+use Rattle.wh_catalog.specs.Undoable.{KeptObject, object_in}
 use Rattle.wh_catalog.specs.Object.{kept_object, object_of, filed_in_kind, filed_of_objects}
 use Rattle.wh_catalog.specs.declared.object.StoredObject.{StoredObject}
 
@@ -40,6 +40,10 @@ with_made (Some o) = object_of o.now ∷ []
 abbrev pub stored_made : Option (Bor StoredObject) → List machine.StoredObject
 stored_made None = []
 stored_made (Some o) = object_in (kept_object o.now) ∷ []
+
+abbrev pub kept_made : Option (Bor StoredObject) → List KeptObject
+kept_made None = []
+kept_made (Some o) = kept_object o.now ∷ []
 
 abbrev pub filed_made : Option (Bor StoredObject) → List Filed
 filed_made None = []

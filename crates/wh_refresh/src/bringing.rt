@@ -1,5 +1,5 @@
 //! Tables brought to a moment, each over what those before it leave.
-ghost use Rattle.std.specs.Prelude.{◌≡◌, ℕ, List, IfOk};
+ghost use Rattle.std.specs.Prelude.{◌≡◌, ◌<◌, ◌++◌, ◌∷◌, [], ℕ, List, IfOk, IfSome, OnOk};
 ghost use Rattle.wh_reply.specs.View.{action_view};
 ghost use Rattle.wh_reply.specs.declared.reply.RefreshAction.TheVariants.{Incremental};
 ghost use Rattle.wh_fetch.specs.Device.{Counts};
@@ -15,6 +15,8 @@ ghost use Rattle.wh_refresh.specs.Objects.{objects_in, stored_in, filed_at_objec
 ghost use Rattle.wh_refresh.specs.Brought.{AreBrought, HoldsBehind, BringsOneOr, BringsOr};
 ghost use Rattle.wh_refresh.specs.Brought.{MakesRows};
 ghost use Rattle.wh_refresh.specs.Standing.{StandsBy, AllStand};
+ghost use Rattle.wh_refresh.specs.Asked.{ids_of, actions_of, IsFiledIn, Besides, IsCounted, IsCountedBy};
+ghost use Rattle.wh_refresh.specs.Asked.{AreCounted, AsksOfChange, AsksOf, AsksOfAll};
 
 use crate::brought::{Brought, NewRows};
 use crate::objects::{dynamic_at, table_at};
@@ -42,6 +44,10 @@ pub(crate) fn bring_all<F: Fetch>(
         (machine.brought_all stamp moment ids.now (objects_in objects.now))) }
     ensures sound { AllShownBy (F.contents fetch.old) (filed_at_objects objects.now)
         → F.damage fetch.new ≡ F.damage fetch.old }
+    ensures asks { IfOk result (λ found. IfSome found (λ all.
+        AreCounted objects.now ids.now (actions_of all.items)
+        → AsksOfAll (IsFiledIn objects.now ids.now) objects.now moment ids.now
+        (F.asked fetch.old) (F.asked fetch.new))) }
     ensures same { F.contents fetch.new ≡ F.contents fetch.old }
     ensures goes { F.stays fetch.old fetch.new }
     ensures counts { Counts (F.faults fetch.old) (F.faults fetch.new) result }
@@ -73,6 +79,10 @@ fn bring<F: Fetch>(
         (machine.brought_one (after_all stamp moment bs (objects_in objects.now)) moment id)) }
     ensures sound { AllShownBy (F.contents fetch.old) (filed_at_objects objects.now)
         → F.damage fetch.new ≡ F.damage fetch.old }
+    ensures asks { IfOk result (λ found. IfSome found (λ one.
+        IsCountedBy objects.now id (action_view one.action) → AsksOf (IsFiledIn objects.now (ids_of before.now ++ id ∷ []))
+        objects.now moment id (F.asked fetch.old) (F.asked fetch.new))) }
+    ensures id { IfOk result (λ found. IfSome found (λ one. one.id ≡ id)) }
     ensures same { F.contents fetch.new ≡ F.contents fetch.old }
     ensures goes { F.stays fetch.old fetch.new }
     ensures counts { Counts (F.faults fetch.old) (F.faults fetch.new) result }
@@ -114,10 +124,11 @@ fn action(
     moment: u64,
     dynamic: &Dynamic,
 ) -> RefreshAction
-    ensures { (stamp : ℕ) (bs : List machine.Brought)
+    ensures action { (stamp : ℕ) (bs : List machine.Brought)
         → AreBrought (stored_in objects.now) before.now bs → AreAbove 0 bs
         → action_view result ≡ machine.action_of
         (after_all stamp moment bs (objects_in objects.now)) moment (dynamic_of dynamic.now) }
+    ensures later { result ≡ Incremental → 0 < (dynamic_of dynamic.now).state.moment }
 {
     let from = dynamic.state().moment;
     if from == 0 {
@@ -164,6 +175,11 @@ fn new_rows<F: Fetch>(
     ensures sound { AllShownBy (F.contents fetch.old) (filed_at_objects objects.now)
         → AllShownBy (F.contents fetch.old) (filed_of table.now)
         → F.damage fetch.new ≡ F.damage fetch.old }
+    ensures asks { action ≡ Incremental → 0 < (dynamic_of dynamic.now).state.moment
+        → IsCounted objects.now (dynamic_of dynamic.now) → OnOk result
+        (AsksOfChange (Besides objects.now before.now (filed_of table.now))
+        objects.now moment (dynamic_of dynamic.now)
+        (F.asked fetch.old) (F.asked fetch.new)) }
     ensures same { F.contents fetch.new ≡ F.contents fetch.old }
     ensures goes { F.stays fetch.old fetch.new }
     ensures counts { Counts (F.faults fetch.old) (F.faults fetch.new) result }

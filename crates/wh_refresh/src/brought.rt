@@ -1,8 +1,9 @@
-ghost use Rattle.std.specs.Prelude.{option_map, List};
+ghost use Rattle.std.specs.Prelude.{option_map, List, Contains, OnSome};
 ghost use Rattle.wh_state.specs.Stored.{StoredObject};
 ghost use Rattle.wh_machine.specs.Brought.{edits_sought};
 ghost use Rattle.wh_machine.specs.Refresh as machine;
 ghost use Rattle.wh_refresh.specs.Brought.{AreBrought, IsRowsOf};
+ghost use Rattle.wh_refresh.specs.Asked.{ids_of};
 
 use wh_dynamic::{DynamicState, GroupsChange};
 use wh_reply::RefreshAction;
@@ -31,9 +32,10 @@ pub(crate) struct NewRows {
 /// The version to come of the table of an id, if there is one.
 #[cycle(new_rows_of)]
 pub(crate) fn new_rows_of(all: &[Brought], id: u32) -> Option<&NewRows>
-    ensures { (stored : List StoredObject) (bs : List machine.Brought)
+    ensures rows { (stored : List StoredObject) (bs : List machine.Brought)
         → AreBrought stored all.now bs
         → IsRowsOf stored id (option_map (λ r. r.now) result) (edits_sought id bs) }
+    ensures among { OnSome result (Contains (ids_of all.now) id) }
 {
     match all {
         [] => None,

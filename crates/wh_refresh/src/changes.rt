@@ -1,5 +1,5 @@
 //! What changes of its sources make of the rows of a dynamic table.
-ghost use Rattle.std.specs.Prelude.{◌≡◌, ◌≤◌, ◌++◌, ℕ, List, map, true, Some, IfOk, OnOk};
+ghost use Rattle.std.specs.Prelude.{◌≡◌, ◌≤◌, ◌++◌, [], ℕ, List, map, true, Some, Contains, IfOk, OnOk};
 ghost use Rattle.std.specs.FinMap.{values};
 ghost use Rattle.wh_fetch.specs.Device.{Counts};
 ghost use Rattle.wh_meaning.specs.Bag as bags;
@@ -10,6 +10,8 @@ ghost use Rattle.wh_algebra.specs.View.{query_of as plain_query_of};
 ghost use Rattle.wh_algebra.specs.Tuple.{rows_in};
 ghost use Rattle.wh_part.specs.View.{numbered_of};
 ghost use Rattle.wh_filed.specs.Fetching.{AllShownBy, AllCovered};
+ghost use Rattle.wh_filed.specs.Asking.{AsksFor};
+ghost use Rattle.wh_state.specs.Bound.{query_bound};
 ghost use Rattle.wh_state.specs.State.{last_rows};
 ghost use Rattle.wh_state.specs.Moments.{instance_at, evaluated_at};
 ghost use Rattle.wh_state.specs.Stored.{table_meant};
@@ -23,6 +25,7 @@ ghost use Rattle.wh_machine.specs.Brought.{after_all, AreAbove};
 ghost use Rattle.wh_refresh.specs.Objects.{objects_in, stored_in, filed_at_objects};
 ghost use Rattle.wh_refresh.specs.Brought.{AreBrought};
 ghost use Rattle.wh_refresh.specs.Rebased.{IsRebased};
+ghost use Rattle.wh_refresh.specs.Asked.{ids_of, IsFiledIn, AsksByMoves, AsksOfChange};
 
 use crate::brought::Brought;
 use crate::evaluation::bound;
@@ -63,6 +66,10 @@ pub(crate) fn change_of_rows<F: Fetch>(
         (dynamic_of dynamic.now)) found) }
     ensures sound { AllShownBy (F.contents fetch.old) (filed_at_objects objects.now)
         → F.damage fetch.new ≡ F.damage fetch.old }
+    ensures asks { linear (query_bound (objects_in objects.now) (dynamic_of dynamic.now).query).query
+        ≡ true → OnOk result (AsksOfChange (IsFiledIn objects.now (ids_of before.now))
+        objects.now moment (dynamic_of dynamic.now)
+        (F.asked fetch.old) (F.asked fetch.new)) }
     ensures same { F.contents fetch.new ≡ F.contents fetch.old }
     ensures goes { F.stays fetch.old fetch.new }
     ensures counts { Counts (F.faults fetch.old) (F.faults fetch.new) result }
@@ -105,6 +112,9 @@ fn change_by_moves<F: Fetch>(
         (eval (plain_query_of query.now) (instance_at (objects_in objects.now) to ids.now)) found) }
     ensures sound { AllShownBy (F.contents fetch.old) (filed_at_objects objects.now)
         → F.damage fetch.new ≡ F.damage fetch.old }
+    ensures asks { OnOk result (AsksByMoves (IsFiledIn objects.now [])
+        objects.now from to ids.now (plain_query_of query.now)
+        (F.asked fetch.old) (F.asked fetch.new)) }
     ensures same { F.contents fetch.new ≡ F.contents fetch.old }
     ensures goes { F.stays fetch.old fetch.new }
     ensures counts { Counts (F.faults fetch.old) (F.faults fetch.new) result }
@@ -135,6 +145,10 @@ fn change_by_sources<F: Fetch>(
         (instance_at (after_all stamp to bs (objects_in objects.now)) to ids.now)) found) }
     ensures sound { AllShownBy (F.contents fetch.old) (filed_at_objects objects.now)
         → F.damage fetch.new ≡ F.damage fetch.old }
+    ensures asks { linear (plain_query_of query.now) ≡ true → OnOk result
+        (AsksByMoves (IsFiledIn objects.now (ids_of before.now))
+        objects.now from to ids.now (plain_query_of query.now)
+        (F.asked fetch.old) (F.asked fetch.new)) }
     ensures same { F.contents fetch.new ≡ F.contents fetch.old }
     ensures goes { F.stays fetch.old fetch.new }
     ensures counts { Counts (F.faults fetch.old) (F.faults fetch.new) result }
@@ -161,6 +175,8 @@ pub(crate) fn rebased_with<F: Fetch>(
         → IsRebased r (last_rows (table_meant (table_of table.now))) new) }
     ensures sound { AllShownBy (F.contents fetch.old) (filed_of table.now)
         → F.damage fetch.new ≡ F.damage fetch.old }
+    ensures asks { OnOk result (AsksFor (Contains (filed_of table.now))
+        (F.asked fetch.old) (F.asked fetch.new)) }
     ensures same { F.contents fetch.new ≡ F.contents fetch.old }
     ensures goes { F.stays fetch.old fetch.new }
     ensures counts { Counts (F.faults fetch.old) (F.faults fetch.new) result }

@@ -1,5 +1,5 @@
 //! The edits of a dynamic table of which groups are kept, and what becomes of these.
-ghost use Rattle.std.specs.Prelude.{◌≡◌, ◌<◌, ◌≤◌, ℕ, List, Some, option_map, IfOk};
+ghost use Rattle.std.specs.Prelude.{◌≡◌, ◌<◌, ◌≤◌, [], ℕ, List, Some, option_map, IfOk, OnOk};
 ghost use Rattle.std.specs.FinMap.{empty};
 ghost use Rattle.wh_fetch.specs.Device.{Counts};
 ghost use Rattle.wh_filed.specs.Fetching.{AllShownBy, AllCovered};
@@ -17,6 +17,7 @@ ghost use Rattle.wh_refresh.specs.Brought.{HoldsBehind};
 ghost use Rattle.wh_refresh.specs.Rebased.{RegroupsTo};
 ghost use Rattle.wh_refresh.specs.Groups.{StandsWith, FindsGroups};
 ghost use Rattle.wh_refresh.specs.Standing.{HasItsRows, HasKeys};
+ghost use Rattle.wh_refresh.specs.Asked.{ids_of, IsFiledIn, Besides, AsksByMoves, AsksOfChange};
 
 use crate::brought::Brought;
 use crate::changes::rebased_with;
@@ -59,6 +60,10 @@ pub(crate) fn rebased_by_groups<F: Fetch>(
     ensures sound { AllShownBy (F.contents fetch.old) (filed_at_objects objects.now)
         → AllShownBy (F.contents fetch.old) (filed_of table.now)
         → F.damage fetch.new ≡ F.damage fetch.old }
+    ensures asks { 0 < (dynamic_of dynamic.now).state.moment → OnOk result
+        (AsksOfChange (Besides objects.now before.now (filed_of table.now))
+        objects.now moment (dynamic_of dynamic.now)
+        (F.asked fetch.old) (F.asked fetch.new)) }
     ensures same { F.contents fetch.new ≡ F.contents fetch.old }
     ensures goes { F.stays fetch.old fetch.new }
     ensures counts { Counts (F.faults fetch.old) (F.faults fetch.new) result }
@@ -129,6 +134,9 @@ fn rebased_from_groups<F: Fetch>(
     ensures sound { AllShownBy (F.contents fetch.old) (filed_at_objects objects.now)
         → AllShownBy (F.contents fetch.old) (filed_of table.now)
         → F.damage fetch.new ≡ F.damage fetch.old }
+    ensures asks { OnOk result (AsksOfChange (Besides objects.now before.now (filed_of table.now))
+        objects.now moment (dynamic_of dynamic.now)
+        (F.asked fetch.old) (F.asked fetch.new)) }
     ensures same { F.contents fetch.new ≡ F.contents fetch.old }
     ensures goes { F.stays fetch.old fetch.new }
     ensures counts { Counts (F.faults fetch.old) (F.faults fetch.new) result }
@@ -207,6 +215,9 @@ fn change_of_groups<F: Fetch>(
         → FindsGroups was (kept_groups groups.now) now moment (dynamic_of dynamic.now) found)) }
     ensures sound { AllShownBy (F.contents fetch.old) (filed_at_objects objects.now)
         → F.damage fetch.new ≡ F.damage fetch.old }
+    ensures asks { OnOk result (AsksOfChange (IsFiledIn objects.now (ids_of before.now))
+        objects.now moment (dynamic_of dynamic.now)
+        (F.asked fetch.old) (F.asked fetch.new)) }
     ensures same { F.contents fetch.new ≡ F.contents fetch.old }
     ensures goes { F.stays fetch.old fetch.new }
     ensures counts { Counts (F.faults fetch.old) (F.faults fetch.new) result }
@@ -258,6 +269,9 @@ fn kept_by_moves<F: Fetch>(
         (instance_at (objects_in objects.now) to ids.now) (kept_groups groups.now)) }
     ensures sound { AllShownBy (F.contents fetch.old) (filed_at_objects objects.now)
         → F.damage fetch.new ≡ F.damage fetch.old }
+    ensures asks { OnOk result (AsksByMoves (IsFiledIn objects.now [])
+        objects.now from to ids.now (plain_query_of query.now)
+        (F.asked fetch.old) (F.asked fetch.new)) }
     ensures same { F.contents fetch.new ≡ F.contents fetch.old }
     ensures goes { F.stays fetch.old fetch.new }
     ensures counts { Counts (F.faults fetch.old) (F.faults fetch.new) result }
@@ -288,6 +302,9 @@ fn kept_by_sources<F: Fetch>(
         (kept_groups groups.now) found)) }
     ensures sound { AllShownBy (F.contents fetch.old) (filed_at_objects objects.now)
         → F.damage fetch.new ≡ F.damage fetch.old }
+    ensures asks { OnOk result (AsksByMoves (IsFiledIn objects.now (ids_of before.now))
+        objects.now from to ids.now (plain_query_of query.now)
+        (F.asked fetch.old) (F.asked fetch.new)) }
     ensures same { F.contents fetch.new ≡ F.contents fetch.old }
     ensures goes { F.stays fetch.old fetch.new }
     ensures counts { Counts (F.faults fetch.old) (F.faults fetch.new) result }

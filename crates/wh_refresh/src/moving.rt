@@ -1,5 +1,5 @@
 //! What came in sources and what of them went, from one moment to another.
-ghost use Rattle.std.specs.Prelude.{◌≡◌, ◌≤◌, [], List, is_some, Contains, IfOk};
+ghost use Rattle.std.specs.Prelude.{◌≡◌, ◌≤◌, ◌++◌, [], List, is_some, Contains, IfOk};
 ghost use Rattle.std.specs.List.{AllByRecursion, list_any};
 ghost use Rattle.wh_state.specs.Stored.{StoredObject as FileObject};
 ghost use Rattle.wh_machine.specs.Refresh as machine;
@@ -11,6 +11,7 @@ ghost use Rattle.wh_exec.specs.Source.{parts_bag};
 ghost use Rattle.wh_filed.specs.Filed.{filed_at, partitions_at};
 ghost use Rattle.wh_state.specs.Moments.{bag_at};
 ghost use Rattle.wh_refresh.specs.Sources.{bag_held, bags_held, filed_by, filed_held, AllTurn};
+ghost use Rattle.wh_refresh.specs.Asked.{Moves, AllMoved};
 
 use crate::brought::{Brought, new_rows_of};
 use crate::objects::table_at;
@@ -38,6 +39,8 @@ pub(crate) fn sources_moved<'a>(
     requires { from ≤ to }
     ensures turns { IfOk result (λ moved. AllTurn (objects_in objects.now) from to ids.now
         (bags_held moved.came.items) (bags_held moved.went.items)) }
+    ensures moves { IfOk result (λ moved. AllMoved objects.now from to ids.now
+        moved.came.items moved.went.items) }
     ensures came { IfOk result (λ moved.
         AllByRecursion (Contains (filed_at_objects objects.now)) (filed_held moved.came.items)) }
     ensures went { IfOk result (λ moved.
@@ -63,6 +66,8 @@ fn source_moved<'a>(
     requires { from ≤ to }
     ensures turns { IfOk result (λ moved. IsTurn (bag_at (objects_in objects.now) from id)
         (bag_at (objects_in objects.now) to id) (bag_held moved.0) (bag_held moved.1)) }
+    ensures moves { IfOk result (λ moved. Moves objects.now from to id
+        (filed_by moved.0 ++ filed_by moved.1)) }
     ensures came { IfOk result (λ moved.
         AllByRecursion (Contains (filed_at_objects objects.now)) (filed_by moved.0)) }
     ensures went { IfOk result (λ moved.

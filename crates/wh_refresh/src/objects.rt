@@ -10,9 +10,11 @@ ghost use Rattle.wh_moment.specs.Upstream.{dynamics_of};
 ghost use Rattle.wh_dynamic.specs.View.{dynamic_of, dynamics_in};
 ghost use Rattle.wh_table.specs.Table as tables;
 ghost use Rattle.wh_table.specs.Table.{table_of};
-ghost use Rattle.wh_catalog.specs.Catalog.{stored_of, state_of, filed_of};
-ghost use Rattle.wh_refresh.specs.Objects.{objects_in, stored_in, filed_at_objects, filed_at_id};
-ghost use Rattle.wh_refresh.specs.Objects.{with_made, stored_made, filed_made};
+ghost use Rattle.wh_catalog.specs.Object.{kept_objects};
+ghost use Rattle.wh_catalog.specs.Catalog.{kept_of, stored_of, state_of, filed_of};
+ghost use Rattle.wh_refresh.specs.Objects.{objects_in, stored_in, objects_at, filed_at_objects};
+ghost use Rattle.wh_refresh.specs.Objects.{filed_at_id, with_made, stored_made, kept_made};
+ghost use Rattle.wh_refresh.specs.Objects.{filed_made};
 
 use std::alloc::{AllocError, Global};
 use wh_catalog::{Catalog, StoredObject, StoredTable, watched_object};
@@ -29,6 +31,8 @@ pub fn all_objects<'a>(
         ≡ (state_of catalog.now).objects ++ with_made made.entry) }
     ensures stored { IfOk result (λ objects. stored_in objects.items
         ≡ (stored_of catalog.now).objects ++ stored_made made.entry) }
+    ensures kept { IfOk result (λ objects. kept_objects (objects_at objects.items)
+        ≡ kept_of catalog.now ++ kept_made made.entry) }
     ensures among { IfOk result (λ objects. AreAmong (filed_at_objects objects.items)
         (filed_of catalog.now ++ filed_made made.entry)) }
 {
@@ -48,6 +52,8 @@ fn add_made<'a>(
         ≡ objects_in objects.old.items ++ with_made made.entry) }
     ensures stored { OnOk result (stored_in objects.new.items
         ≡ stored_in objects.old.items ++ stored_made made.entry) }
+    ensures kept { OnOk result (kept_objects (objects_at objects.new.items)
+        ≡ kept_objects (objects_at objects.old.items) ++ kept_made made.entry) }
     ensures filed { OnOk result (filed_at_objects objects.new.items
         ≡ filed_at_objects objects.old.items ++ filed_made made.entry) }
 {

@@ -6,13 +6,14 @@ ghost use Rattle.wh_fetch.specs.Device.{Counts};
 ghost use Rattle.wh_filed.specs.Fetching.{AllShownBy, AllCovered};
 ghost use Rattle.wh_state.specs.State.{State};
 ghost use Rattle.wh_state.specs.Objects as state;
-ghost use Rattle.wh_moment.specs.Upstream.{dynamics_of};
+ghost use Rattle.wh_moment.specs.Upstream.{dynamics_of, brought};
 ghost use Rattle.wh_moment.specs.Moment.{is_suspended_at};
 ghost use Rattle.wh_machine.specs.Refresh as machine;
 ghost use Rattle.wh_machine.specs.Dynamics.{first_suspended};
 ghost use Rattle.wh_refresh.specs.Objects.{objects_in, stored_in, filed_at_objects};
 ghost use Rattle.wh_refresh.specs.Refreshing.{besides, RefreshesAs, AreRead};
 ghost use Rattle.wh_refresh.specs.Standing.{AllStand};
+ghost use Rattle.wh_refresh.specs.Asked.{AsksAsBrought};
 
 use crate::bringing::bring_all;
 use crate::limits::number_refusal;
@@ -60,6 +61,9 @@ pub fn refresh<F: Fetch>(
     ensures read { IfOk result (λ r. AreRead r) }
     ensures sound { AllShownBy (F.contents fetch.old) (filed_at_objects objects.now)
         → F.damage fetch.new ≡ F.damage fetch.old }
+    ensures asks { IfOk result (AsksAsBrought objects.now moment
+        (brought (dynamics_of (objects_in objects.now)) id moment)
+        (F.asked fetch.old) (F.asked fetch.new)) }
     ensures same { F.contents fetch.new ≡ F.contents fetch.old }
     ensures goes { F.stays fetch.old fetch.new }
     ensures counts { Counts (F.faults fetch.old) (F.faults fetch.new) result }

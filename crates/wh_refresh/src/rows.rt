@@ -1,8 +1,10 @@
 //! The edits that bring a dynamic table to the rows of its query for a moment.
-ghost use Rattle.std.specs.Prelude.{◌≡◌, ℕ, List, IfOk};
+ghost use Rattle.std.specs.Prelude.{◌≡◌, ◌<◌, ℕ, List, true, IfOk, OnOk};
 ghost use Rattle.wh_fetch.specs.Device.{Counts};
 ghost use Rattle.wh_filed.specs.Fetching.{AllShownBy, AllCovered};
 ghost use Rattle.wh_reply.specs.declared.reply.RefreshAction.TheVariants.{Incremental};
+ghost use Rattle.wh_maintenance.specs.Delta.{linear};
+ghost use Rattle.wh_state.specs.Bound.{query_bound};
 ghost use Rattle.wh_state.specs.State.{last_rows};
 ghost use Rattle.wh_state.specs.Moments.{evaluated_at};
 ghost use Rattle.wh_state.specs.Stored.{table_meant};
@@ -14,6 +16,7 @@ ghost use Rattle.wh_refresh.specs.Objects.{objects_in, stored_in, filed_at_objec
 ghost use Rattle.wh_refresh.specs.Brought.{AreBrought, HoldsBehind};
 ghost use Rattle.wh_refresh.specs.Rebased.{IsRebased, RebasesTo, RegroupsTo};
 ghost use Rattle.wh_refresh.specs.Standing.{HasItsRows, StandsBy};
+ghost use Rattle.wh_refresh.specs.Asked.{Besides, IsCounted, AsksOfChange};
 
 use crate::brought::Brought;
 use crate::changes::{change_of_rows, rebased_with};
@@ -60,6 +63,11 @@ pub(crate) fn rebased_by<F: Fetch>(
     ensures sound { AllShownBy (F.contents fetch.old) (filed_at_objects objects.now)
         → AllShownBy (F.contents fetch.old) (filed_of table.now)
         → F.damage fetch.new ≡ F.damage fetch.old }
+    ensures asks { action ≡ Incremental → 0 < (dynamic_of dynamic.now).state.moment
+        → IsCounted objects.now (dynamic_of dynamic.now) → OnOk result
+        (AsksOfChange (Besides objects.now before.now (filed_of table.now))
+        objects.now moment (dynamic_of dynamic.now)
+        (F.asked fetch.old) (F.asked fetch.new)) }
     ensures same { F.contents fetch.new ≡ F.contents fetch.old }
     ensures goes { F.stays fetch.old fetch.new }
     ensures counts { Counts (F.faults fetch.old) (F.faults fetch.new) result }
@@ -102,6 +110,12 @@ fn rebased_by_action<F: Fetch>(
     ensures sound { AllShownBy (F.contents fetch.old) (filed_at_objects objects.now)
         → AllShownBy (F.contents fetch.old) (filed_of table.now)
         → F.damage fetch.new ≡ F.damage fetch.old }
+    ensures asks { action ≡ Incremental
+        → linear (query_bound (objects_in objects.now) (dynamic_of dynamic.now).query).query
+        ≡ true → OnOk result
+        (AsksOfChange (Besides objects.now before.now (filed_of table.now))
+        objects.now moment (dynamic_of dynamic.now)
+        (F.asked fetch.old) (F.asked fetch.new)) }
     ensures same { F.contents fetch.new ≡ F.contents fetch.old }
     ensures goes { F.stays fetch.old fetch.new }
     ensures counts { Counts (F.faults fetch.old) (F.faults fetch.new) result }
@@ -173,6 +187,11 @@ fn rebased_by_change<F: Fetch>(
     ensures sound { AllShownBy (F.contents fetch.old) (filed_at_objects objects.now)
         → AllShownBy (F.contents fetch.old) (filed_of table.now)
         → F.damage fetch.new ≡ F.damage fetch.old }
+    ensures asks { linear (query_bound (objects_in objects.now) (dynamic_of dynamic.now).query).query
+        ≡ true → OnOk result
+        (AsksOfChange (Besides objects.now before.now (filed_of table.now))
+        objects.now moment (dynamic_of dynamic.now)
+        (F.asked fetch.old) (F.asked fetch.new)) }
     ensures same { F.contents fetch.new ≡ F.contents fetch.old }
     ensures goes { F.stays fetch.old fetch.new }
     ensures counts { Counts (F.faults fetch.old) (F.faults fetch.new) result }

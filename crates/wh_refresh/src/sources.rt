@@ -1,5 +1,5 @@
 //! What the sources of a dynamic table hold at a moment, some of which were brought to it.
-ghost use Rattle.std.specs.Prelude.{◌≡◌, ◌||◌, ℕ, List, is_some, Contains, IfOk};
+ghost use Rattle.std.specs.Prelude.{◌≡◌, ◌||◌, ◌⊎◌, ℕ, List, is_some, Contains, IfOk};
 ghost use Rattle.std.specs.List.{AllByRecursion};
 ghost use Rattle.wh_exec.specs.Source.{filed_in, instance_in};
 ghost use Rattle.wh_state.specs.Moments.{bag_at, instance_at};
@@ -10,6 +10,7 @@ ghost use Rattle.wh_refresh.specs.Objects.{objects_in, stored_in, filed_at_objec
 ghost use Rattle.wh_refresh.specs.Brought.{AreBrought};
 ghost use Rattle.wh_refresh.specs.Sources.{is_new_at, bag_held, bags_held, filed_by, filed_held};
 ghost use Rattle.wh_refresh.specs.Sources.{views_held, IsPartOf, AreParts};
+ghost use Rattle.wh_refresh.specs.Asked.{ids_of, StandsAt, IsBroughtIn, AllStanding};
 
 use crate::brought::{Brought, new_rows_of};
 use crate::objects::table_at;
@@ -44,6 +45,8 @@ pub(crate) fn sources_held<'a>(
     ensures parts { IfOk result (λ sources. (bs : List machine.Brought)
         → AreBrought (stored_in objects.now) brought.now bs
         → AreParts objects.now ids.now sources.items) }
+    ensures stand { IfOk result (λ sources. AllStanding objects.now (ids_of brought.now) moment
+        ids.now sources.items) }
 {
     let mut sources = Vec::new(alloc);
     for id in ids {
@@ -69,6 +72,8 @@ fn source_held<'a>(
     ensures part { IfOk result (λ source. (bs : List machine.Brought)
         → AreBrought (stored_in objects.now) brought.now bs
         → IsPartOf (filed_at_id objects.now id) (filed_by source)) }
+    ensures stands { IfOk result (λ source. IsBroughtIn objects.now (ids_of brought.now) id source
+        ⊎ StandsAt objects.now moment id source) }
 {
     let Some(table) = table_at(objects, id) else {
         return Ok(SourceHeld {

@@ -35,10 +35,12 @@ pub(crate) fn lines(
     moment: u64,
     all: &[Brought],
 ) -> Result<Vec<Refreshed>, AllocError>
-    ensures { IfOk result (λ lines. (bs : List machine.Brought)
+    ensures lines { IfOk result (λ lines. (bs : List machine.Brought)
         → AreBrought (stored_in objects.now) all.now bs
         → map refreshed_view lines.items
         ≡ map (machine.told_of (objects_in objects.now) moment) bs) }
+    ensures actions { IfOk result (λ lines.
+        map (λ line. line.action) lines.items ≡ map (λ one. one.action) all.now) }
 {
     let mut lines = Vec::new(alloc);
     for one in all {
@@ -53,9 +55,10 @@ fn line(
     moment: u64,
     one: &Brought,
 ) -> Result<Refreshed, AllocError>
-    ensures { IfOk result (λ line. (b : machine.Brought)
+    ensures line { IfOk result (λ line. (b : machine.Brought)
         → IsBrought (stored_in objects.now) one.now b
         → refreshed_view line ≡ machine.told_of (objects_in objects.now) moment b) }
+    ensures action { IfOk result (λ line. line.action ≡ one.now.action) }
 {
     let (plus, minus) = counts(one);
     Ok(Refreshed {

@@ -15,9 +15,10 @@ pub struct EditedTable {
 }
 
 impl StoredTable {
-    ghost use Rattle.std.specs.Prelude.{◌≡◌, IfOk};
+    ghost use Rattle.std.specs.Prelude.{◌≡◌, Contains, IfOk, OnOk};
     ghost use Rattle.wh_fetch.specs.Device.{Counts};
     ghost use Rattle.wh_filed.specs.Fetching.{AllShownBy, AllCovered};
+    ghost use Rattle.wh_filed.specs.Asking.{AsksFor};
     ghost use Rattle.wh_version.specs.Edits.{edits_in};
     ghost use Rattle.wh_table.specs.Edited.{IsEdited};
     ghost use Rattle.wh_table.specs.Table.{table_of, filed_of};
@@ -34,6 +35,8 @@ impl StoredTable {
             → IfOk result (λ edited. IsEdited edited (edits_in edits) (table_of self.now)) }
         ensures sound { AllShownBy (F.contents fetch.old) (filed_of self.now)
             → F.damage fetch.new ≡ F.damage fetch.old }
+        ensures asks { OnOk result (AsksFor (Contains (filed_of self.now))
+            (F.asked fetch.old) (F.asked fetch.new)) }
         ensures same { F.contents fetch.new ≡ F.contents fetch.old }
         ensures goes { F.stays fetch.old fetch.new }
         ensures counts { Counts (F.faults fetch.old) (F.faults fetch.new) result }

@@ -13,6 +13,7 @@ impl StoredTable {
     ghost use Rattle.wh_fetch.specs.Device.{Counts};
     ghost use Rattle.wh_filed.specs.Filed.{filed_at, partitions_at, loaded_of};
     ghost use Rattle.wh_filed.specs.Fetching.{AllShownBy, AllCovered};
+    ghost use Rattle.wh_filed.specs.Asking.{AsksFor};
     ghost use Rattle.wh_table.specs.Table.{filed_of};
 
     /// Some of its partitions, in order.
@@ -28,6 +29,8 @@ impl StoredTable {
             → IfOk result (λ found. loaded_of found.items ≡ partitions_at some.now) }
         ensures sound { AllShownBy (F.contents fetch.old) (filed_of self.now)
             → F.damage fetch.new ≡ F.damage fetch.old }
+        ensures asks { AsksFor (Contains (filed_of self.now))
+            (F.asked fetch.old) (F.asked fetch.new) }
         ensures same { F.contents fetch.new ≡ F.contents fetch.old }
         ensures goes { F.stays fetch.old fetch.new }
         ensures counts { Counts (F.faults fetch.old) (F.faults fetch.new) result }

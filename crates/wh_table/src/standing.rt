@@ -13,14 +13,15 @@ use wh_filed::FiledPartition;
 use wh_version::Lasting;
 
 impl StoredTable {
-    ghost use Rattle.std.specs.Prelude.{◌++◌, ℕ, Contains, IfOk};
+    ghost use Rattle.std.specs.Prelude.{◌≡◌, ◌++◌, [], ℕ, Contains, IfOk};
     ghost use Rattle.std.specs.List.{AllByRecursion};
     ghost use Rattle.wh_filed.specs.Filed.{filed_at, partitions_at};
     ghost use Rattle.wh_state.specs.State as state;
-    ghost use Rattle.wh_state.specs.State.{last_rows};
+    ghost use Rattle.wh_state.specs.State.{content_in, last_rows};
     ghost use Rattle.wh_state.specs.Edits as machine;
     ghost use Rattle.wh_state.specs.Act.{edited_table};
     ghost use Rattle.wh_state.specs.Stored.{table_meant};
+    ghost use Rattle.wh_version.specs.Times.{data_at};
     ghost use Rattle.wh_table.specs.Edited.{IsEdited};
     ghost use Rattle.wh_table.specs.Shown.{HoldsRising};
     ghost use Rattle.wh_table.specs.Table.{table_of, filed_of};
@@ -46,6 +47,8 @@ impl StoredTable {
             (state.rows_at (table_meant (table_of self.now)) moment)) }
         ensures among { IfOk result (λ found.
             AllByRecursion (Contains (filed_of self.now)) (filed_at found.items)) }
+        ensures stand { IfOk result (λ found. partitions_at found.items
+            ≡ content_in [] (data_at moment (table_of self.now).versions)) }
     {
         let Some(version) = self.history.at(moment) else {
             return Ok(Vec::new(alloc));

@@ -14,7 +14,8 @@ ghost use Rattle.wh_txn.specs.Recording.{IsAt, IsRead};
 ghost use Rattle.wh_txn.specs.View.{sessions_of};
 ghost use Rattle.wh_decide.specs.Event.{event_of};
 ghost use Rattle.wh_decide.specs.Asked.{AsksInEvent};
-ghost use Rattle.wh_decide.specs.Decision.{commit_in, settlement_of, machine_at};
+ghost use Rattle.wh_decide.specs.RefreshAsked.{refresh_acted, refresh_in, AsksAsReplied};
+ghost use Rattle.wh_decide.specs.Decision.{commit_in, settlement_of, answer_of, machine_at};
 ghost use Rattle.wh_decide.specs.Decision.{Decides, StagesInOpen};
 ghost use Rattle.wh_decide.specs.Sight.{machine_in, Comes, IsReady, IsShown, IsSound};
 
@@ -56,6 +57,10 @@ pub fn decide<D: Disk>(
     ensures asks { AsksInEvent catalog.now
         (machine_at (stamped (state_of catalog.now) stamp) (sessions_of sessions.now))
         (event_of event.now) fetch.old.asked.items fetch.new.asked.items }
+    ensures fetches { IfOk result (λ decision. AsksAsReplied catalog.now
+        (refresh_in (machine_at (stamped (state_of catalog.now) stamp) (sessions_of sessions.now))
+        (event_of event.now))
+        fetch.old.asked.items fetch.new.asked.items (answer_of decision)) }
     ensures staged { IfOk result (λ decision.
         StagesInOpen (sessions_of sessions.now) (settlement_of decision)) }
     ensures timed { IfOk result (λ decision. IsAt stamp (commit_in (settlement_of decision))) }
@@ -98,6 +103,9 @@ fn decide_tick<D: Disk>(
     ensures comes { IsShown (told_of D.Disk fetch.old) sight.now → IsSound sight.now
         → IfOk result (λ decision. Comes sight.now decision (ticked (machine_in sight.now))) }
     ensures ready { IfOk result (λ decision. IsReady sight.now decision) }
+    ensures fetches { IfOk result (λ decision. AsksAsReplied sight.now.catalog.now
+        (refresh_acted (machine_in sight.now) (action_at (machine_in sight.now)))
+        fetch.old.asked.items fetch.new.asked.items (answer_of decision)) }
     ensures same { told_of D.Disk fetch.new ≡ told_of D.Disk fetch.old }
     ensures sound { IsShown (told_of D.Disk fetch.old) sight.now
         → damage_of fetch.new ≡ damage_of fetch.old }
@@ -122,6 +130,9 @@ fn refresh_due<D: Disk>(
         → IfOk result (λ decision. Comes sight.now decision (refreshes (machine_in sight.now)
         (due_table (dynamics_of (machine_in sight.now).state.objects) sight.now.stamp))) }
     ensures ready { IfOk result (λ decision. IsReady sight.now decision) }
+    ensures fetches { IfOk result (λ decision. AsksAsReplied sight.now.catalog.now
+        (due_table (dynamics_of (machine_in sight.now).state.objects) sight.now.stamp)
+        fetch.old.asked.items fetch.new.asked.items (answer_of decision)) }
     ensures same { told_of D.Disk fetch.new ≡ told_of D.Disk fetch.old }
     ensures sound { IsShown (told_of D.Disk fetch.old) sight.now
         → damage_of fetch.new ≡ damage_of fetch.old }

@@ -11,6 +11,12 @@ use Rattle.wh_decide.proofs.AskLemmas.{request_unasked}
 use Rattle.wh_decide.specs.Asked.{AsksAsRequested}
 use Rattle.wh_grammar.specs.Spelled.{Request}
 use Rattle.wh_stmt_parse.specs.Request.{request_of}
+use Rattle.std.specs.Result.{IfOk}
+use Rattle.wh_value.specs.declared.limit.Limit.TheVariants as limits
+use Rattle.wh_reply.specs.Reply.{OverLimit, SyntaxError}
+use Rattle.wh_decide.specs.Decision.{answer_of}
+use Rattle.wh_decide.specs.RefreshAsked.{refresh_requested, AsksAsReplied}
+use Rattle.wh_decide.proofs.RefreshAskLaws.{refused_asks}
 use Rattle.wh_decide.proofs.deciding.decide_command.Goals as goal
 
 pub returns-then-bound-text-clause-comes : goal.returns-then-bound-text-clause-comes
@@ -71,3 +77,23 @@ pub returns-in-Err-SyntaxError-clause-asks : goal.returns-in-Err-SyntaxError-cla
 returns-in-Err-SyntaxError-clause-asks g c =
     request_unasked c.args.sight.now.catalog.now (machine_in c.args.sight.now) c.args.sight.now.session
     (request_of c.args.text.now) _
+
+pub returns-then-bound-text-clause-fetches : goal.returns-then-bound-text-clause-fetches
+returns-then-bound-text-clause-fetches g c =
+    refused_asks c.args.sight.now.catalog.now c.args.fetch.now.asked.items c.args.fetch.now.asked.items
+    (refresh_requested (machine_in c.args.sight.now) (request_of c.args.text.now)) (OverLimit limits.Statement)
+
+pub returns-in-Ok-clause-fetches : goal.returns-in-Ok-clause-fetches
+returns-in-Ok-clause-fetches g c =
+    let sight = c.args.sight.now in
+    let within : length c.args.text.now ≤ 65536 = omega (arith, c.bound.ensures) in
+    subst (λ (r : Request). IfOk c.decide_tree-decision.result (λ d. AsksAsReplied sight.catalog.now
+    (refresh_requested (machine_in sight) r) c.args.fetch.now.asked.items c.decide_tree-decision.new.fetch.asked.items
+    (answer_of d)))
+    (sym (short_request c.args.text.now (Some c.in-Ok.statement) within c.in-Ok.ensures.reads))
+    c.decide_tree-decision.ensures.fetches
+
+pub returns-in-Err-SyntaxError-clause-fetches : goal.returns-in-Err-SyntaxError-clause-fetches
+returns-in-Err-SyntaxError-clause-fetches g c =
+    refused_asks c.args.sight.now.catalog.now c.args.fetch.now.asked.items c.args.fetch.now.asked.items
+    (refresh_requested (machine_in c.args.sight.now) (request_of c.args.text.now)) SyntaxError

@@ -26,6 +26,12 @@ use Rattle.wh_decide.proofs.SpelledLemmas.{meant_read}
 use Rattle.wh_decide.proofs.AskLemmas.{bound_unasked}
 use Rattle.wh_decide.specs.Asked.{AsksAsBound}
 use Rattle.wh_machine.specs.Reading.{start_in}
+use Rattle.std.specs.Result.{IfOk}
+use Rattle.wh_reply.specs.Reply.{NoSuchSession}
+use Rattle.wh_decide.specs.Decision.{answer_of}
+use Rattle.wh_grammar.specs.Spelled.{Asked}
+use Rattle.wh_decide.specs.RefreshAsked.{refresh_bound, refresh_requested, AsksAsReplied}
+use Rattle.wh_decide.proofs.RefreshAskLaws.{refused_asks}
 use Rattle.wh_decide.proofs.deciding.decide_tree.Goals as goal
 
 -- the same objects and roots behind references
@@ -117,3 +123,26 @@ returns-in-Ok-clause-asks g c =
 
 pub returns-in-Err-Failing-clause-asks : goal.returns-in-Err-Failing-clause-asks
 returns-in-Err-Failing-clause-asks g c = bound_unasked c.args.sight.now.catalog.now _ _ _
+
+pub returns-then-not-is_session-clause-fetches : goal.returns-then-not-is_session-clause-fetches
+returns-then-not-is_session-clause-fetches g c =
+    refused_asks c.args.sight.now.catalog.now c.args.fetch.now.asked.items c.args.fetch.now.asked.items
+    (refresh_requested (machine_in c.args.sight.now) (Asked c.args.statement.now))
+    (NoSuchSession c.args.sight.now.session)
+
+pub returns-in-Ok-clause-fetches : goal.returns-in-Ok-clause-fetches
+returns-in-Ok-clause-fetches g c =
+    let sight = c.args.sight.now in
+    let tree = c.args.statement.now in
+    let same = named_as tree c.deref.ensures.value c.deref-2.ensures.value
+    (c.in_ok-objects.ensures (map root_in c.in_ok-roots.roots.items)
+    ∙ c.in_ok-roots.ensures (names_from 1 (state_of sight.catalog.now).objects)) in
+    subst (λ (b : Bound). IfOk c.decide_bound.result (λ d. AsksAsReplied sight.catalog.now (refresh_bound sight.stamp b)
+    c.args.fetch.now.asked.items c.decide_bound.new.fetch.asked.items (answer_of d)))
+    (c.in-Ok.ensures.bound ∙ ap (λ (m : Meant Bound). m.value) same) c.decide_bound.ensures.fetches
+
+pub returns-in-Err-Failing-clause-fetches : goal.returns-in-Err-Failing-clause-fetches
+returns-in-Err-Failing-clause-fetches g c =
+    refused_asks c.args.sight.now.catalog.now c.args.fetch.now.asked.items c.args.fetch.now.asked.items
+    (refresh_requested (machine_in c.args.sight.now) (Asked c.args.statement.now))
+    (refusal_view c.unwrap_or-why.result)

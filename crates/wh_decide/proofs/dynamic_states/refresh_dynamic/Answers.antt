@@ -29,3 +29,10 @@ returns-in-Some-clause-ready g c = nothing_ready c.args.sight.now
 
 pub returns-clause-ready : goal.returns-clause-ready
 returns-clause-ready g c = c.refreshed.ensures.ready c.in_ok-found.ensures.read
+
+-- ---- what is asked for
+
+pub returns-clause-fetches : goal.returns-clause-fetches
+returns-clause-fetches g c =
+    c.refreshed.ensures.fetches c.args.sight.now.catalog.now c.args.id c.args.sight.now.stamp _ _
+    c.in_ok-found.ensures.fetches

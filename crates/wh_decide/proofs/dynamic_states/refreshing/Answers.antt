@@ -12,6 +12,12 @@ use Rattle.wh_decide.specs.Sight.{machine_in}
 use Rattle.wh_fetch.specs.DiskFetch.{told_of, Covers}
 use Rattle.wh_filed.proofs.FetchingLaws.{all_shown_by, all_covered}
 use Rattle.wh_decide.proofs.ReadyLemmas.{objects_shown}
+use denote.Ref.{Bor}
+use Rattle.wh_catalog.specs.declared.object.StoredObject.{StoredObject as Kept}
+use Rattle.wh_catalog.specs.Catalog.{kept_of}
+use Rattle.wh_catalog.specs.Object.{kept_objects}
+use Rattle.wh_refresh.specs.Objects.{objects_at}
+use Rattle.wh_decide.proofs.RefreshAskLaws.{to_bring}
 use Rattle.wh_decide.proofs.dynamic_states.refreshing.Goals as goal
 
 pub refresh-requires : goal.refresh-requires
@@ -40,3 +46,14 @@ returns-clause-sound g c = λ shown.
     c.refresh.ensures.sound (all_shown_by (told_of g.D.Disk c.args.fetch.now) (filed_at_objects c.deref.result.now)
     (objects_shown c.args.sight.now (told_of g.D.Disk c.args.fetch.now) _ _ _ c.in_ok-objects.ensures.among refl
     c.deref.ensures.value shown))
+
+-- ---- what is asked for
+
+pub returns-clause-fetches : goal.returns-clause-fetches
+returns-clause-fetches g c =
+    let catalog = c.args.sight.now.catalog.now in
+    let all = ap (λ (os : List (Bor Kept)). kept_objects (objects_at os)) c.deref.ensures.value
+    ∙ c.in_ok-objects.ensures.kept ∙ append-nil (kept_of catalog) in
+    IfOk-weaker c.refresh.result _ _
+    (λ found asks. to_bring catalog c.args.fetch.now.asked.items c.refresh.new.fetch.asked.items c.args.id c.args.moment
+    c.deref.result.now all found asks) c.refresh.ensures.asks

@@ -5,6 +5,7 @@ use Rattle.wh_maintenance.proofs.Turns.{net_apart}
 use Rattle.wh_delta.specs.Moves.{change_of}
 use Rattle.wh_delta.proofs.MovedLaws.{moved_turns, moved_filed}
 use Rattle.wh_delta.proofs.FoundLaws.{held_views, net_found, none_found}
+use Rattle.wh_delta.proofs.AskedLaws.{between_moved}
 use Rattle.wh_delta.proofs.change.delta.Goals as goal
 
 pub moves_of-requires-clause-comes : goal.moves_of-requires-clause-comes
@@ -90,3 +91,21 @@ returns-clause-change g c = λ all numbered was is.
 
 pub returns-clause-apart : goal.returns-clause-apart
 returns-clause-apart g c = net_apart _ _ _ _ c.in_ok-net.ensures
+
+pub returns-in_default-clause-asks : goal.returns-in_default-clause-asks
+returns-in_default-clause-asks g c = λ linear.
+    let came = held_views _ _ _ _ _ c.deref-3.ensures.value c.in_ok-comes.ensures c.deref.ensures.value
+    c.in_ok-came.ensures in
+    let gone = held_views _ _ _ _ _ c.deref-4.ensures.value c.in_ok-goes.ensures c.deref-2.ensures.value
+    c.in_ok-gone.ensures in
+    between_moved (query_of c.args.query.now) c.args.old.now c.args.new.now c.deref-3.result.now c.deref-4.result.now
+    _ _ came gone (c.in_ok-moves.ensures.asks linear)
+
+pub returns-clause-asks : goal.returns-clause-asks
+returns-clause-asks g c = λ linear.
+    let came = held_views _ _ _ _ _ c.deref-3.ensures.value c.in_ok-comes.ensures c.deref.ensures.value
+    c.in_ok-came.ensures in
+    let gone = held_views _ _ _ _ _ c.deref-4.ensures.value c.in_ok-goes.ensures c.deref-2.ensures.value
+    c.in_ok-gone.ensures in
+    between_moved (query_of c.args.query.now) c.args.old.now c.args.new.now c.deref-3.result.now c.deref-4.result.now
+    _ _ came gone (c.in_ok-moves.ensures.asks linear)

@@ -1,4 +1,4 @@
-use Rattle.std.proofs.Common.{sym, ◌∙◌}
+use Rattle.std.proofs.Common.{◌≡◌, true, false, sym, ◌∙◌}
 use Rattle.wh_algebra.specs.View.{query_of}
 use Rattle.wh_delta.proofs.Arms.{net_arm}
 use Rattle.wh_delta.proofs.change.moves_of.Goals as goal
@@ -28,3 +28,7 @@ returns-clause-sound g c = λ comes goes stays. c.carried.ensures.sound (record 
   comes = comes;
   goes = goes;
 })
+
+pub returns-clause-asks : goal.returns-clause-asks
+returns-clause-asks g c = λ is.
+    let none : true ≡ false = sym is ∙ (sym c.is_linear.ensures ∙ c.if-is_linear.false) in absurd cc

@@ -10,6 +10,9 @@ use Rattle.wh_group.specs.Slots.{kept_groups}
 use Rattle.wh_group.specs.Grouping.{grouping_in}
 use Rattle.wh_group.specs.Updates.{change_of}
 use Rattle.wh_delta.specs.Moves.{turning}
+use Rattle.wh_delta.specs.Asked.{asked_over}
+use Rattle.wh_delta.proofs.AskedLaws.{below_first, below_both}
+use Rattle.wh_filed.proofs.AskingLaws.{none_among}
 use Rattle.wh_delta.proofs.KeptLaws.{still_shown, no_comes, no_goes, both_sides}
 use Rattle.wh_delta.proofs.KeptLaws.{side_none, range_none, above_none, kept_found}
 use Rattle.wh_delta.proofs.kept.kept_delta.Given.{Over}
@@ -73,3 +76,35 @@ returns-clause-change g c = λ came went old.
     (turning old c.args.comes.now c.args.goes.now) (kept_groups c.args.groups.now)
     (change_of c.deref.result.now c.deref-2.result.now) (sides g after came went) c.in-Ok.found
     c.in-Ok.ensures.updated c.in-Some-4.moves _ (rw c.in-Some-4.is at c.in_ok-moves.ensures) c.in_ok-rows.ensures refl
+
+-- ---- what is asked for
+
+pub returns-in_default-clause-asks : goal.returns-in_default-clause-asks
+returns-in_default-clause-asks g c =
+    none_among (asked_over (query_of c.args.query.now) c.args.comes.now c.args.goes.now)
+    (g.F.Fetch.asked c.args.fetch.now)
+
+pub returns-in_default-2-clause-asks : goal.returns-in_default-2-clause-asks
+returns-in_default-2-clause-asks g c =
+    below_first (query_of c.args.query.now) (grouping_in c.in-Some.field-0) c.args.comes.now c.args.goes.now _ _
+    (sym c.in-Some.ensures) c.in_ok-comes.ensures.asks
+
+pub returns-in_default-3-clause-asks : goal.returns-in_default-3-clause-asks
+returns-in_default-3-clause-asks g c =
+    below_both (query_of c.args.query.now) (grouping_in c.in-Some.field-0) c.args.comes.now c.args.goes.now _ _ _
+    (sym c.in-Some.ensures) c.in_ok-comes.ensures.asks c.in_ok-goes.ensures.asks
+
+pub returns-in-Err-NumberOutOfRange-clause-asks : goal.returns-in-Err-NumberOutOfRange-clause-asks
+returns-in-Err-NumberOutOfRange-clause-asks g c =
+    below_both (query_of c.args.query.now) (grouping_in c.in-Some.field-0) c.args.comes.now c.args.goes.now _ _ _
+    (sym c.in-Some.ensures) c.in_ok-comes.ensures.asks c.in_ok-goes.ensures.asks
+
+pub returns-in_default-4-clause-asks : goal.returns-in_default-4-clause-asks
+returns-in_default-4-clause-asks g c =
+    below_both (query_of c.args.query.now) (grouping_in c.in-Some.field-0) c.args.comes.now c.args.goes.now _ _ _
+    (sym c.in-Some.ensures) c.in_ok-comes.ensures.asks c.in_ok-goes.ensures.asks
+
+pub returns-clause-asks : goal.returns-clause-asks
+returns-clause-asks g c =
+    below_both (query_of c.args.query.now) (grouping_in c.in-Some.field-0) c.args.comes.now c.args.goes.now _ _ _
+    (sym c.in-Some.ensures) c.in_ok-comes.ensures.asks c.in_ok-goes.ensures.asks

@@ -1,10 +1,13 @@
 use Rattle.std.proofs.Common.{◌≡◌}
+use Rattle.std.proofs.lemmas.Result.{on_ok_weaker}
+use Rattle.wh_algebra.specs.View.{query_of}
 use Rattle.std.proofs.lemmas.Result.{IfOk-weaker}
 use Rattle.wh_filed.specs.Fetching.{IsShownBy, IsCovered, AllShownBy}
 use Rattle.wh_exec.specs.Source.{instance_in, filed_in}
 use Rattle.wh_delta.specs.Moved.{views_of, moved_of, moved_in}
 use Rattle.wh_delta.proofs.MovedLaws.{moved_turns, moved_filed}
 use Rattle.wh_delta.proofs.FoundLaws.{held_views}
+use Rattle.wh_delta.proofs.AskedLaws.{between_moved}
 use Rattle.wh_delta.proofs.kept.kept_delta_between.Given.{Over}
 use Rattle.wh_delta.proofs.kept.kept_delta_between.Goals.{After-deref-4}
 use Rattle.wh_delta.proofs.kept.kept_delta_between.Goals as goal
@@ -47,3 +50,11 @@ pub returns-clause-sound : goal.returns-clause-sound
 returns-clause-sound g c = λ comes goes.
     let after = (goal.at.returns-clause-sound g c).After-deref-4 in
     c.kept_delta.ensures.sound (comes_shown g after comes) (goes_shown g after goes)
+
+pub returns-clause-asks : goal.returns-clause-asks
+returns-clause-asks g c =
+    let after = (goal.at.returns-clause-asks g c).After-deref-4 in
+    on_ok_weaker c.kept_delta.result
+    (between_moved (query_of c.args.query.now) c.args.old.now c.args.new.now c.deref-3.result.now c.deref-4.result.now
+    _ _ (came g after) (gone g after))
+    c.kept_delta.ensures.asks

@@ -1,4 +1,5 @@
-use Rattle.std.proofs.Common.{◌<◌, ◌≤◌, length, Option, Some, refl, sym, ap, subst, rules, ◌∙◌}
+use Rattle.std.proofs.Common.{◌<◌, ◌≤◌, [], map, length, Option, Some, refl, sym, ap, subst, rules, ◌∙◌}
+use Rattle.std.proofs.lemmas.Result.{on_ok_weaker}
 use Rattle.std.proofs.lemmas.Option.{slice_get_read, slice_get_past}
 use Rattle.wh_filed.specs.Fetching.{IsShownBy, IsCovered}
 use Rattle.wh_meaning.specs.Bag.{Bag}
@@ -6,6 +7,12 @@ use Rattle.wh_exec.specs.Step.{through}
 use Rattle.wh_exec.specs.Sink.{Takes, Feeds}
 use Rattle.wh_exec.proofs.ThroughLaws.{through-no_rows}
 use Rattle.wh_exec.proofs.SinkLaws.{takes_none}
+use Rattle.wh_exec.specs.Source.{filed_of}
+use Rattle.wh_exec.specs.Asked.{filed_by}
+use Rattle.wh_filed.specs.Asking.{id_of}
+use Rattle.wh_filed.proofs.AskingLaws.{none_among}
+use Rattle.std.specs.Option.{option_map_or}
+use Rattle.wh_exec.proofs.AskLaws.{among_same}
 use Rattle.wh_exec.proofs.SourceLaws.{source_there, no_source, all_there}
 use Rattle.wh_exec.proofs.scan.scan.Goals as goal
 
@@ -42,3 +49,16 @@ scan_source-requires g c =
     all_there (IsCovered (g.F.Fetch.covers c.args.fetch.now)) c.args.sources.now c.args.source c.in-Some.source.now
     (slice_get_read c.args.sources.now (length c.args.sources.now) c.args.source c.in-Some.source.now refl within
     c.in-Some.ensures.lookup.1) c.requires
+
+pub returns-in-Some-clause-asks : goal.returns-in-Some-clause-asks
+returns-in-Some-clause-asks g c =
+    let within : c.args.source < length c.args.sources.now = search rules in
+    let found = slice_get_read c.args.sources.now (length c.args.sources.now) c.args.source c.in-Some.source.now refl
+    within c.in-Some.ensures.lookup.1 in
+    on_ok_weaker c.scan_source.result
+    (among_same _ _ _ _ (sym (ap (λ source. map id_of (option_map_or filed_of source [])) found)))
+    c.scan_source.ensures.asks
+
+pub returns-in-None-clause-asks : goal.returns-in-None-clause-asks
+returns-in-None-clause-asks g c =
+    none_among (map id_of (filed_by c.args.sources.now c.args.source)) (g.F.Fetch.asked c.args.fetch.now)

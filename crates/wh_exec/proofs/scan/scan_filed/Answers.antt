@@ -1,7 +1,9 @@
-use Rattle.std.proofs.Common.{refl, rules, ◌∙◌}
+use Rattle.std.proofs.Common.{◌+◌, [], refl, rules, ◌∙◌}
 use Rattle.wh_filed.specs.Filed.{filed_at, partitions_at}
 use Rattle.wh_filed.specs.Fetching.{IsShownBy, AllShownBy, IsCovered}
+use Rattle.wh_filed.specs.Asking.{names_at}
 use Rattle.wh_filed.proofs.FetchingLaws.{at_place, shown_now, still_covered}
+use Rattle.wh_filed.proofs.AskingLaws.{none_among, among_next, among_all}
 use Rattle.wh_exec.proofs.PartLaws.{meant-none, filed_there, part_more, part_lacks}
 use Rattle.wh_exec.proofs.scan.scan_filed.Given.{Over}
 use Rattle.wh_exec.proofs.scan.scan_filed.Goals.{After-scan_one}
@@ -12,6 +14,7 @@ loop-one-init g c = record {
   covered = c.requires;
   fed = λ all. meant-none c.args.steps.now c.args.sink.now;
   sound = λ all. refl;
+  asks = none_among [] (g.F.Fetch.asked c.args.fetch.now);
   same = refl;
   goes = g.met.F.Fetch.stays_so c.args.fetch.now;
   counted = refl;
@@ -43,6 +46,8 @@ loop-one-preserved g c =
       fed = λ all. part_more c.args.steps.now (partitions_at c.args.filed.now) at.one-index _ there.within there.at
           (at.invariant.fed all) (feeds (one all));
       sound = λ all. c.in_ok-scan_one.ensures.sound (one all) ∙ at.invariant.sound all;
+      asks = among_next c.args.filed.now at.one-index c.one-item.result c.loop-one-test.true c.one-item.is _ _ _
+          at.invariant.asks c.in_ok-scan_one.ensures.asks;
       same = search rules;
       goes = g.met.F.Fetch.stays_on _ _ _ at.invariant.goes goes;
       counted = search rules;
@@ -65,3 +70,13 @@ pub returns-in_default-clause-sound : goal.returns-in_default-clause-sound
 returns-in_default-clause-sound g c all =
     c.in_ok-scan_one.ensures.sound (shown g (goal.at.returns-in_default-clause-sound g c).After-scan_one all)
     ∙ c.loop-one.invariant.sound all
+
+pub returns-in_default-clause-asks : goal.returns-in_default-clause-asks
+returns-in_default-clause-asks g c =
+    let at = c.loop-one in
+    among_all (at.one-index + 1) (names_at c.args.filed.now) _ _
+    (among_next c.args.filed.now at.one-index c.one-item.result c.loop-one-test.true c.one-item.is _ _ _
+    at.invariant.asks c.in_ok-scan_one.ensures.asks)
+
+pub returns-clause-asks : goal.returns-clause-asks
+returns-clause-asks g c = among_all c.loop-one.one-index (names_at c.args.filed.now) _ _ c.loop-one.invariant.asks

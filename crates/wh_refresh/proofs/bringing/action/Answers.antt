@@ -22,16 +22,16 @@ acts objects moment from d ids new same reads some is =
     (by_mode d.is_incremental) NoData)) other
     ∙ ap (λ (t : Bool). cond t (by_mode d.is_incremental) NoData) more
 
-pub returns-then-has_new_data : goal.returns-then-has_new_data
-returns-then-has_new_data c stamp bs are above =
+pub returns-then-has_new_data-clause-action : goal.returns-then-has_new_data-clause-action
+returns-then-has_new_data-clause-action c stamp bs are above =
     c.by_mode.ensures
     ∙ sym (acts (after_all stamp c.args.moment bs (objects_in c.args.objects.now)) c.args.moment
     c.state-from.result.moment (dynamic_of c.args.dynamic.now) c.reads.result.now true
     (ap (λ (s : DynamicState). s.moment) c.state-from.ensures) c.reads.ensures c.if-from-eq0.false
     (c.if-has_new_data.ensures stamp bs are above))
 
-pub returns-else-has_new_data : goal.returns-else-has_new_data
-returns-else-has_new_data c stamp bs are above =
+pub returns-else-has_new_data-clause-action : goal.returns-else-has_new_data-clause-action
+returns-else-has_new_data-clause-action c stamp bs are above =
     sym (acts (after_all stamp c.args.moment bs (objects_in c.args.objects.now)) c.args.moment
     c.state-from.result.moment (dynamic_of c.args.dynamic.now) c.reads.result.now false
     (ap (λ (s : DynamicState). s.moment) c.state-from.ensures) c.reads.ensures c.if-from-eq0.false

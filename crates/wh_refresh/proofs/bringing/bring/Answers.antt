@@ -1,4 +1,4 @@
-use Rattle.std.proofs.Common.{◌≡◌, ℕ, zero, suc, ◌<◌, cond, List, Option, Some, None, option_map, refl, subst, sym, ap}
+use Rattle.std.proofs.Common.{◌≡◌, ℕ, zero, suc, ◌<◌, ◌++◌, ◌∷◌, [], cond, List, Option, Some, None, option_map, refl, subst, sym, ap}
 use Rattle.std.proofs.Common.{◌∙◌, arith}
 use Rattle.std.specs.Prelude.{nat_eq}
 use Rattle.std.proofs.lemmas.Option.{same_Some}
@@ -27,6 +27,8 @@ use Rattle.wh_refresh.specs.Objects.{objects_in, stored_in, filed_at_objects}
 use Rattle.wh_refresh.specs.Brought.{AreBrought, MakesRows, BringsOne}
 use Rattle.wh_refresh.specs.Standing.{StandsBy, AllStand}
 use Rattle.wh_refresh.specs.declared.brought.NewRows.{NewRows}
+use Rattle.wh_refresh.specs.Asked.{ids_of, IsFiledIn, Besides}
+use Rattle.wh_refresh.proofs.AskLaws.{no_change, moves_wider, own_besides, by_a_change}
 use Rattle.wh_refresh.proofs.RefreshLemmas.{one_without, one_by}
 use Rattle.wh_refresh.proofs.bringing.bring.Given.{Over}
 use Rattle.wh_refresh.proofs.bringing.bring.Goals.{After-new_rows}
@@ -68,7 +70,7 @@ stands g c stand stamp bs are above =
     let d = dynamic_of c.in-Some.dynamic.now in
     record {
       moment = λ is. later_moment (after_all stamp c.args.moment bs objects) c.args.moment d c.action-action.result is
-          (c.action-action.ensures stamp bs are above);
+          (c.action-action.ensures.action stamp bs are above);
       rows = stand.each c.args.id d (table_meant (table_of c.in-Some-table_at.table.now)) (sym c.in-Some.ensures)
           (sym c.in-Some-table_at.ensures.meant);
       keyed = stand.keyed c.args.id d (sym c.in-Some.ensures);
@@ -111,7 +113,7 @@ returns-in-NoData-clause-brought g c shown stand stamp bs are above none =
     let d = dynamic_of c.in-Some.dynamic.now in
     let t = table_meant (table_of c.in-Some-table_at.table.now) in
     let acts : machine.action_of (after_all stamp c.args.moment bs objects) c.args.moment d ≡ reply.NoData =
-    sym (c.action-action.ensures stamp bs are above) ∙ ap action_view c.in-NoData.is in
+    sym (c.action-action.ensures.action stamp bs are above) ∙ ap action_view c.in-NoData.is in
     record {
       brought = brought_as c.args.id c.args.moment d.state reply.NoData None None;
       is = one_by stamp c.args.moment bs objects above c.args.id d t none (sym c.in-Some.ensures)
@@ -141,7 +143,7 @@ returns-in_default-found-clause-brought g c shown stand stamp bs are above none 
     (c.in_ok-found.ensures.made shown (own_shown g after shown) (stands g after stand stamp bs are above) stamp bs are
     above)) in
     found_by stamp c.args.moment c.args.id bs objects d (table_meant table) c.action-action.result above none
-    (sym c.in-Some.ensures) (sym c.in-Some-table_at.ensures.meant) (c.action-action.ensures stamp bs are above)
+    (sym c.in-Some.ensures) (sym c.in-Some-table_at.ensures.meant) (c.action-action.ensures.action stamp bs are above)
     c.in_default-action.not-NoData
     ∙ ap (by_rows now c.args.moment c.args.id d (table_meant table) c.action-action.result) nothing
   where
@@ -178,7 +180,7 @@ returns-clause-brought g c shown stand stamp bs are above none =
             (Some (rebase (last_rows t) bag)) groups;
         is = found_by stamp c.args.moment c.args.id bs objects d t c.action-action.result above none
             (sym c.in-Some.ensures) (sym c.in-Some-table_at.ensures.meant)
-            (c.action-action.ensures stamp bs are above) c.in_default-action.not-NoData
+            (c.action-action.ensures.action stamp bs are above) c.in_default-action.not-NoData
             ∙ ap (by_rows now c.args.moment c.args.id d t c.action-action.result) same;
         same = record {
           id = refl;
@@ -212,3 +214,28 @@ returns-in_default-found-clause-sound g c shown =
 pub returns-clause-sound : goal.returns-clause-sound
 returns-clause-sound g c shown =
     c.in_ok-found.ensures.sound shown (own_shown g (goal.at.returns-clause-sound g c).After-new_rows shown)
+
+-- ---- what is asked for
+
+pub returns-in-NoData-clause-asks : goal.returns-in-NoData-clause-asks
+returns-in-NoData-clause-asks g c = λ counted. record {
+  dynamic = dynamic_of c.in-Some.dynamic.now;
+  found = sym c.in-Some.ensures;
+  asks = no_change (IsFiledIn c.args.objects.now (ids_of c.args.before.now ++ c.args.id ∷ [])) c.args.objects.now _ _ _ _
+      (g.F.Fetch.asked c.args.fetch.now);
+}
+
+pub returns-clause-asks : goal.returns-clause-asks
+returns-clause-asks g c = λ counted.
+    let d = dynamic_of c.in-Some.dynamic.now in
+    let own = filed_of c.in-Some-table_at.table.now in
+    let objects = c.args.objects.now in
+    let before = c.args.before.now in
+    let by = by_a_change objects c.args.id c.action-action.result counted c.in_default-action.not-NoData in
+    record {
+      dynamic = d;
+      found = sym c.in-Some.ensures;
+      asks = moves_wider (Besides objects before own) (IsFiledIn objects (ids_of before ++ c.args.id ∷ [])) objects _ _ _ _
+          _ _ (own_besides objects before c.args.id own c.in-Some-table_at.ensures.filed)
+          (c.in_ok-found.ensures.asks by.0 (c.action-action.ensures.later by.0) (by.1 d (sym c.in-Some.ensures)));
+    }

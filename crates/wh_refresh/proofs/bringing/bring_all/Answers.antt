@@ -1,6 +1,7 @@
-use Rattle.std.proofs.Common.{rules, ◌≡◌, ℕ, ◌+◌, List, ◌∷◌, drop, slice_index_or, Option, None, subst, sym, ◌∙◌}
-use Rattle.std.proofs.lemmas.List.{drop_more, drop_all}
+use Rattle.std.proofs.Common.{rules, ◌≡◌, ℕ, ◌+◌, List, [], ◌∷◌, ◌++◌, drop, slice_index_or, Option, None, subst, sym, ◌∙◌}
+use Rattle.std.proofs.lemmas.List.{drop_more, drop_all, take_all}
 use Rattle.wh_filed.proofs.FetchingLaws.{still_covered}
+use Rattle.wh_reply.specs.View.{action_view}
 use Rattle.wh_state.specs.State.{Object}
 use Rattle.wh_state.specs.Stored.{StoredObject}
 use Rattle.wh_machine.specs.Refresh as machine
@@ -11,6 +12,8 @@ use Rattle.wh_refresh.specs.Objects.{objects_in, stored_in, filed_at_objects}
 use Rattle.wh_refresh.specs.Brought.{AreBrought, BringsOne, BringsOneOr, BroughtSoFar}
 use Rattle.wh_refresh.specs.declared.brought.Brought.{Brought}
 use Rattle.wh_refresh.proofs.RefreshLemmas.{far_further, far_stopped, far_done, rise_above, not_sought}
+use Rattle.wh_refresh.specs.Asked.{ids_of, actions_of, IsFiledIn, IsCountedBy, AreCounted, AsksOf, AsksOfAll}
+use Rattle.wh_refresh.proofs.AskLaws.{ids_more, asks_more}
 use Rattle.wh_refresh.proofs.SourceLemmas.{still_shown}
 use Rattle.wh_refresh.proofs.bringing.bring_all.Goals as goal
 
@@ -67,6 +70,17 @@ loop-id-preserved g c = record {
       (sym c.in_ok-push-in-Some.ensures.items)
       (far_further stored objects stamp moment ids id (drop (i + 1) ids) all c.in-Some.one far
       (sym brings.same.id ∙ brought_id now moment id brings.brought brings.is) brings);
+  ids = ids_more c.loop-id.brought.items _ c.in-Some.one c.args.ids.now c.loop-id.id-index c.loop-id-test.true
+      c.in_ok-push-in-Some.ensures.items (rw c.in-Some.is at c.in_ok-one.ensures.id) c.loop-id.invariant.ids;
+  asks = asks_more c.args.objects.now c.args.moment c.args.ids.now c.loop-id.id-index c.loop-id.brought.items _
+      c.in-Some.one _ _ _ c.loop-id-test.true c.in_ok-push-in-Some.ensures.items c.loop-id.invariant.ids
+      c.loop-id.invariant.asks
+      (subst (λ (bs : List Brought). IsCountedBy c.args.objects.now (slice_index_or c.args.ids.now c.loop-id.id-index 0)
+      (action_view c.in-Some.one.action)
+      → AsksOf (IsFiledIn c.args.objects.now (ids_of bs ++ slice_index_or c.args.ids.now c.loop-id.id-index 0 ∷ []))
+      c.args.objects.now c.args.moment (slice_index_or c.args.ids.now c.loop-id.id-index 0)
+      (g.F.Fetch.asked c.loop-id.fetch) (g.F.Fetch.asked c.bring.new.fetch)) c.deref.ensures.value
+      (rw c.in-Some.is at c.in_ok-one.ensures.asks));
   sound = search rules;
   same = search rules;
   goes = g.met.F.Fetch.stays_on _ _ _ c.loop-id.invariant.goes c.in_ok-one.ensures.goes;
@@ -81,3 +95,12 @@ returns-clause-brought g c shown stand stamp rise =
     far_done stored objects stamp c.args.moment ids c.loop-id.brought.items
     (subst (λ (left : List ℕ). BroughtSoFar stored objects stamp c.args.moment ids left c.loop-id.brought.items)
     (drop_all c.loop-id.id-index ids c.loop-id-test.false) (c.loop-id.invariant.brought shown stand stamp rise))
+
+pub returns-clause-asks : goal.returns-clause-asks
+returns-clause-asks g c = λ counted.
+    let ids = c.args.ids.now in
+    let all = take_all c.loop-id.id-index ids c.loop-id-test.false in
+    subst (λ (xs : List ℕ). AsksOfAll (IsFiledIn c.args.objects.now ids) c.args.objects.now c.args.moment xs
+    (g.F.Fetch.asked c.args.fetch.now) (g.F.Fetch.asked c.loop-id.fetch)) all
+    (c.loop-id.invariant.asks (subst (λ (xs : List ℕ). AreCounted c.args.objects.now xs
+    (actions_of c.loop-id.brought.items)) (sym all) counted))

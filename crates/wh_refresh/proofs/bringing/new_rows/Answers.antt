@@ -1,4 +1,4 @@
-use Rattle.std.proofs.Common.{◌≡◌, List, Option, Some, None, option_map, refl, subst, ◌∙◌}
+use Rattle.std.proofs.Common.{◌≡◌, inr, Contains, List, Option, Some, None, option_map, refl, subst, ◌∙◌}
 use Rattle.wh_meaning.specs.Bag.{Bag}
 use Rattle.wh_state.specs.State.{Object, last_rows}
 use Rattle.wh_state.specs.Dynamic.{GroupsChange}
@@ -18,6 +18,8 @@ use Rattle.wh_refresh.specs.Rebased.{RebasesTo, RegroupsTo}
 use Rattle.wh_refresh.specs.declared.brought.NewRows.{NewRows}
 use Rattle.wh_refresh.specs.declared.rebase.Rebased.{Rebased}
 use Rattle.wh_refresh.specs.declared.rows.Regrouped.{Regrouped}
+use Rattle.wh_refresh.specs.Asked.{Besides}
+use Rattle.wh_refresh.proofs.AskLaws.{moves_then_own}
 use Rattle.wh_refresh.proofs.SourceLemmas.{still_shown}
 use Rattle.wh_refresh.proofs.bringing.new_rows.Goals as goal
 
@@ -62,3 +64,12 @@ returns-clause-made g c shown own stands stamp bs are above =
     (c.in_ok-found.ensures.rebased shown own stands stamp bs are above) in
     one_made t (evaluated_at now c.args.moment d) (groups_brought now c.args.moment d) _ _ regroups.rows
     (c.in_ok-edited.ensures.edited then) refl refl regroups.groups
+
+pub returns-in_default-clause-asks : goal.returns-in_default-clause-asks
+returns-in_default-clause-asks g c = λ is later counted. c.in_ok-found.ensures.asks is later counted
+
+pub returns-clause-asks : goal.returns-clause-asks
+returns-clause-asks g c = λ is later counted.
+    let own = filed_of c.args.table.now in
+    moves_then_own (Besides c.args.objects.now c.args.before.now own) (Contains own) c.args.objects.now _ _ _ _ _ _ _
+    (λ f there. inr there) (c.in_ok-found.ensures.asks is later counted) c.in_ok-edited.ensures.asks

@@ -1,4 +1,4 @@
-use Rattle.std.proofs.Common.{ap, ◌∙◌}
+use Rattle.std.proofs.Common.{[], ap, ◌∙◌}
 use Rattle.std.specs.List.{AllByRecursion}
 use Rattle.std.proofs.lemmas.Result.{IfOk-weaker}
 use Rattle.wh_exec.specs.Source.{filed_in, instance_in}
@@ -7,7 +7,11 @@ use Rattle.wh_filed.specs.Fetching.{IsShownBy, IsCovered}
 use Rattle.wh_state.specs.Moments.{instance_at}
 use Rattle.wh_refresh.specs.Objects.{objects_in, filed_at_objects}
 use Rattle.wh_refresh.specs.Sources.{bags_held}
-use Rattle.wh_refresh.proofs.GivenLaws.{sources_hold}
+use Rattle.std.proofs.lemmas.Result.{on_ok_weaker}
+use Rattle.wh_algebra.specs.View.{query_of as plain_query_of}
+use Rattle.wh_refresh.specs.Asked.{IsFiledIn}
+use Rattle.wh_refresh.proofs.AskLaws.{by_moves}
+use Rattle.wh_refresh.proofs.GivenLaws.{sources_hold, views_are}
 use Rattle.wh_refresh.proofs.MovingLaws.{turns_given}
 use Rattle.wh_refresh.proofs.changes.change_by_moves.Given.{Over}
 use Rattle.wh_refresh.proofs.changes.change_by_moves.Goals.{After-deref-4}
@@ -60,3 +64,15 @@ returns-clause-sound g c shown =
     let after = (goal.at.returns-clause-sound g c).After-deref-4 in
     let P = IsShownBy (g.F.Fetch.contents c.args.fetch.now) in
     c.linear_delta.ensures.sound (each_came g P after shown) (each_went g P after shown)
+
+pub returns-clause-asks : goal.returns-clause-asks
+returns-clause-asks g c =
+    on_ok_weaker c.linear_delta.result
+    (by_moves (IsFiledIn c.args.objects.now []) c.args.objects.now c.args.from c.args.to c.args.ids.now
+    (plain_query_of c.args.query.now) c.in_ok-moved.moved.came.items c.in_ok-moved.moved.went.items
+    c.deref-3.result.now c.deref-4.result.now _ _ c.in_ok-moved.ensures.moves
+    (views_are c.deref-3.result.now c.in_ok-came.came.items c.deref.result.now c.in_ok-moved.moved.came.items
+    c.deref-3.ensures.value c.in_ok-came.ensures.views c.deref.ensures.value)
+    (views_are c.deref-4.result.now c.in_ok-went.went.items c.deref-2.result.now c.in_ok-moved.moved.went.items
+    c.deref-4.ensures.value c.in_ok-went.ensures.views c.deref-2.ensures.value))
+    c.linear_delta.ensures.asks

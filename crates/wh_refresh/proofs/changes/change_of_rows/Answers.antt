@@ -1,4 +1,4 @@
-use Rattle.std.proofs.Common.{◌≡◌, ℕ, List, Option, Some, refl, sym, ap, subst, ◌∙◌}
+use Rattle.std.proofs.Common.{◌≡◌, ℕ, List, [], Option, Some, refl, sym, ap, subst, ◌∙◌}
 use Rattle.std.specs.Prelude.{is_some}
 use Rattle.std.specs.List.{list_any}
 use Rattle.std.proofs.lemmas.Result.{IfOk-weaker}
@@ -9,6 +9,7 @@ use Rattle.wh_naming.specs.Select.{BoundQuery}
 use Rattle.wh_meaning.specs.Bag.{Bag}
 use Rattle.wh_meaning.specs.Query.{Query, Instance, eval}
 use Rattle.wh_algebra.specs.View.{query_of as plain_query_of}
+use Rattle.wh_maintenance.specs.Delta as changes
 use Rattle.wh_delta.specs.Found.{FindsNet}
 use Rattle.wh_state.specs.State.{Object}
 use Rattle.wh_state.specs.Dynamic.{DynamicQuery, Dynamic, DynamicState, ids_read}
@@ -18,6 +19,9 @@ use Rattle.wh_dynamic.specs.View.{dynamic_of}
 use Rattle.wh_machine.specs.Refresh as machine
 use Rattle.wh_machine.specs.Brought.{after_all, AreAbove, edits_sought}
 use Rattle.wh_refresh.specs.Objects.{objects_in, stored_in}
+use Rattle.std.proofs.lemmas.Result.{on_ok_weaker}
+use Rattle.wh_refresh.specs.Asked.{ids_of, IsFiledIn}
+use Rattle.wh_refresh.proofs.AskLaws.{moves_wider, none_filed, of_change}
 use Rattle.wh_refresh.proofs.RefreshLemmas.{evaluated_over, sources_same}
 use Rattle.wh_refresh.proofs.changes.change_of_rows.Goals as goal
 
@@ -77,3 +81,29 @@ returns-clause-change g c = λ shown.
     (instance_at (after_all stamp moment bs objects) moment c.reads-2.result.now) found above bound
     (ap (λ (s : DynamicState). s.moment) c.state-from.ensures) c.reads-2.ensures refl has (is stamp bs was are above))
     (c.change_by_sources.ensures.change shown)
+
+pub returns-then-not-some_brought-clause-asks : goal.returns-then-not-some_brought-clause-asks
+unfolding query_in
+returns-then-not-some_brought-clause-asks g c = λ linear.
+    let objects = objects_in c.args.objects.now in
+    let bound = ap (λ (b : code.BoundQuery). plain_query_of b.query) c.get.ensures
+    ∙ ap (λ (b : BoundQuery). b.query) c.in_ok-bound.ensures
+    ∙ ap (λ (q : DynamicQuery). (query_bound objects q).query) c.query.ensures in
+    on_ok_weaker c.change_by_moves.result (λ asks. of_change (IsFiledIn c.args.objects.now (ids_of c.args.before.now))
+    c.args.objects.now c.args.moment _ _ _ (dynamic_of c.args.dynamic.now) _ _
+    (ap (λ (s : DynamicState). s.moment) c.state-from.ensures) c.reads-then-not-some_brought.ensures bound
+    (moves_wider (IsFiledIn c.args.objects.now []) (IsFiledIn c.args.objects.now (ids_of c.args.before.now))
+    c.args.objects.now _ _ _ _ _ _ (none_filed c.args.objects.now (ids_of c.args.before.now)) asks))
+    c.change_by_moves.ensures.asks
+
+pub returns-clause-asks : goal.returns-clause-asks
+unfolding query_in
+returns-clause-asks g c = λ linear.
+    let objects = objects_in c.args.objects.now in
+    let bound = ap (λ (b : code.BoundQuery). plain_query_of b.query) c.get.ensures
+    ∙ ap (λ (b : BoundQuery). b.query) c.in_ok-bound.ensures
+    ∙ ap (λ (q : DynamicQuery). (query_bound objects q).query) c.query.ensures in
+    on_ok_weaker c.change_by_sources.result (of_change (IsFiledIn c.args.objects.now (ids_of c.args.before.now))
+    c.args.objects.now c.args.moment _ _ _ (dynamic_of c.args.dynamic.now) _ _
+    (ap (λ (s : DynamicState). s.moment) c.state-from.ensures) c.reads-2.ensures bound)
+    (c.change_by_sources.ensures.asks (ap changes.linear bound ∙ linear))

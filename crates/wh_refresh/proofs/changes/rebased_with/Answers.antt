@@ -1,4 +1,4 @@
-use Rattle.std.proofs.Common.{◌≡◌, ℕ, ◌++◌, List, [], length, subst, sym, ap, ◌∙◌}
+use Rattle.std.proofs.Common.{◌≡◌, ℕ, ◌++◌, List, [], length, Contains, subst, sym, ap, ◌∙◌}
 use Rattle.std.proofs.lemmas.List.{append-nil}
 use Rattle.std.specs.FinMap.{entries, values}
 use Rattle.std.specs.List.{AllByRecursion}
@@ -10,6 +10,7 @@ use Rattle.wh_meaning.specs.BagChange.{IsChanged}
 use Rattle.wh_moment.specs.Rebase.{rebase}
 use Rattle.wh_filed.specs.Filed.{Filed, filed_at, partitions_at as filed_partitions, loaded_of}
 use Rattle.wh_filed.specs.Fetching.{IsShownBy, IsCovered}
+use Rattle.wh_filed.proofs.AskingLaws.{asks_each}
 use Rattle.wh_state.specs.State.{Rows, last_rows}
 use Rattle.wh_state.specs.Edits.{Edits}
 use Rattle.wh_state.specs.Stored.{table_meant}
@@ -93,3 +94,10 @@ pub returns-clause-sound : goal.returns-clause-sound
 returns-clause-sound g c shown =
     c.in_ok-old.ensures.sound (each_there (IsShownBy (g.F.Fetch.contents c.args.fetch.now)) g
     (goal.at.returns-clause-sound g c).After-deref shown)
+
+pub returns-clause-asks : goal.returns-clause-asks
+returns-clause-asks g c =
+    asks_each (Contains (filed_of c.args.table.now)) (filed_at c.deref.result.now) _ _
+    (subst (λ (fs : List (Bor Filed)). AllByRecursion (Contains (filed_of c.args.table.now)) (filed_at fs))
+    (sym c.deref.ensures.value) c.in_ok-going.ensures.among)
+    c.in_ok-old.ensures.asks

@@ -1,4 +1,4 @@
-use Rattle.std.proofs.Common.{ℕ, List, sym, ap, ◌∙◌}
+use Rattle.std.proofs.Common.{ℕ, List, [], sym, ap, ◌∙◌}
 use Rattle.std.specs.Prelude.{is_some}
 use Rattle.std.specs.List.{list_any}
 use Rattle.std.proofs.lemmas.Result.{IfOk-weaker}
@@ -13,6 +13,9 @@ use Rattle.wh_state.specs.Moments.{instance_at}
 use Rattle.wh_dynamic.specs.View.{dynamic_of}
 use Rattle.wh_machine.specs.Brought.{after_all, edits_sought}
 use Rattle.wh_refresh.specs.Objects.{objects_in, stored_in}
+use Rattle.std.proofs.lemmas.Result.{on_ok_weaker}
+use Rattle.wh_refresh.specs.Asked.{ids_of, IsFiledIn}
+use Rattle.wh_refresh.proofs.AskLaws.{moves_wider, none_filed, of_change}
 use Rattle.wh_refresh.proofs.RefreshLemmas.{sources_same}
 use Rattle.wh_refresh.proofs.GroupLaws.{found_further}
 use Rattle.wh_refresh.proofs.groups.change_of_groups.Goals as goal
@@ -56,3 +59,29 @@ returns-clause-change g c = λ shown has.
     (ap (λ (s : DynamicState). s.moment) c.state-from.ensures) c.reads-2.ensures
     (ap (instance_at (after_all stamp moment bs objects) moment) c.reads-2.ensures) stood (is stamp bs are above))
     (c.kept_by_sources.ensures.change shown)
+
+pub returns-then-not-some_brought-clause-asks : goal.returns-then-not-some_brought-clause-asks
+unfolding query_in
+returns-then-not-some_brought-clause-asks g c =
+    let objects = objects_in c.args.objects.now in
+    let bound = ap (λ (b : code.BoundQuery). plain_query_of b.query) c.get.ensures
+    ∙ ap (λ (b : BoundQuery). b.query) c.in_ok-bound.ensures
+    ∙ ap (λ (q : DynamicQuery). (query_bound objects q).query) c.query.ensures in
+    on_ok_weaker c.kept_by_moves.result (λ asks. of_change (IsFiledIn c.args.objects.now (ids_of c.args.before.now))
+    c.args.objects.now c.args.moment _ _ _ (dynamic_of c.args.dynamic.now) _ _
+    (ap (λ (s : DynamicState). s.moment) c.state-from.ensures) c.reads-then-not-some_brought.ensures bound
+    (moves_wider (IsFiledIn c.args.objects.now []) (IsFiledIn c.args.objects.now (ids_of c.args.before.now))
+    c.args.objects.now _ _ _ _ _ _ (none_filed c.args.objects.now (ids_of c.args.before.now)) asks))
+    c.kept_by_moves.ensures.asks
+
+pub returns-clause-asks : goal.returns-clause-asks
+unfolding query_in
+returns-clause-asks g c =
+    let objects = objects_in c.args.objects.now in
+    let bound = ap (λ (b : code.BoundQuery). plain_query_of b.query) c.get.ensures
+    ∙ ap (λ (b : BoundQuery). b.query) c.in_ok-bound.ensures
+    ∙ ap (λ (q : DynamicQuery). (query_bound objects q).query) c.query.ensures in
+    on_ok_weaker c.kept_by_sources.result (of_change (IsFiledIn c.args.objects.now (ids_of c.args.before.now))
+    c.args.objects.now c.args.moment _ _ _ (dynamic_of c.args.dynamic.now) _ _
+    (ap (λ (s : DynamicState). s.moment) c.state-from.ensures) c.reads-2.ensures bound)
+    c.kept_by_sources.ensures.asks

@@ -12,6 +12,9 @@ use Rattle.wh_group.specs.Slots.{kept_groups}
 use Rattle.wh_state.specs.Moments.{instance_at}
 use Rattle.wh_machine.specs.Brought.{after_all}
 use Rattle.wh_refresh.specs.Objects.{objects_in, filed_at_objects}
+use Rattle.std.proofs.lemmas.Result.{on_ok_weaker}
+use Rattle.wh_refresh.specs.Asked.{ids_of}
+use Rattle.wh_refresh.proofs.AskLaws.{by_sources}
 use Rattle.wh_refresh.proofs.GivenLaws.{sources_hold, given_hold, bags_are, views_are, numbered_held, under}
 use Rattle.wh_refresh.proofs.groups.kept_by_sources.Given.{Over}
 use Rattle.wh_refresh.proofs.groups.kept_by_sources.Goals.{After-deref-4}
@@ -80,3 +83,14 @@ returns-clause-sound g c shown =
     c.kept_delta_between.ensures.sound
     (given_hold P c.deref-4.result.now c.deref-3.result.now (each_new g P after shown))
     (given_hold P c.deref-3.result.now c.deref-4.result.now (each_old g P after shown))
+
+pub returns-clause-asks : goal.returns-clause-asks
+returns-clause-asks g c = on_ok_weaker c.kept_delta_between.result
+    (by_sources c.args.objects.now (ids_of c.args.before.now) c.args.from c.args.to c.args.ids.now
+    (plain_query_of c.args.query.now) c.in_ok-stood.stood.items c.in_ok-held.held.items c.deref-3.result.now
+    c.deref-4.result.now _ _ c.in_ok-stood.ensures.stand c.in_ok-held.ensures.stand
+    (views_are c.deref-3.result.now c.in_ok-old.old.items c.deref.result.now c.in_ok-stood.stood.items
+    c.deref-3.ensures.value c.in_ok-old.ensures.views c.deref.ensures.value)
+    (views_are c.deref-4.result.now c.in_ok-new.new.items c.deref-2.result.now c.in_ok-held.held.items
+    c.deref-4.ensures.value c.in_ok-new.ensures.views c.deref-2.ensures.value))
+    c.kept_delta_between.ensures.asks

@@ -16,6 +16,7 @@ use Rattle.wh_refresh.specs.Objects.{objects_in}
 use Rattle.wh_refresh.specs.Groups.{FindsGroups, StandsWith}
 use Rattle.wh_refresh.specs.Rebased.{IsRebased}
 use Rattle.wh_refresh.specs.declared.rebase.Rebased.{Rebased}
+use Rattle.wh_refresh.proofs.AskLaws.{change_alone, change_then_own}
 use Rattle.wh_refresh.proofs.SourceLemmas.{still_shown}
 use Rattle.wh_refresh.proofs.GroupLaws.{none_regrouped, some_regrouped, later_stood, stands_with}
 use Rattle.wh_refresh.proofs.groups.rebased_from_groups.Goals as goal
@@ -57,3 +58,11 @@ returns-clause-rebased g c shown own keys has stamp bs are above =
     (c.in_ok-rebased.ensures.rebased
     (still_shown _ _ (filed_of c.args.table.now) c.in_ok-found.ensures.same own) new net))
     c.regrouped.ensures.groups
+
+pub returns-in_default-clause-asks : goal.returns-in_default-clause-asks
+returns-in_default-clause-asks g c = change_alone c.args.objects.now c.args.before.now (filed_of c.args.table.now) _ _ _ _
+    _ _ c.in_ok-found.ensures.asks
+
+pub returns-clause-asks : goal.returns-clause-asks
+returns-clause-asks g c = change_then_own c.args.objects.now c.args.before.now (filed_of c.args.table.now) _ _ _ _ _ _ _
+    c.in_ok-found.ensures.asks c.in_ok-rebased.ensures.asks

@@ -6,4 +6,4 @@ use Rattle.wh_refresh.proofs.moving.is_brought.Goals as goal
 pub returns : goal.returns
 returns c stored bs are =
     c.is_some.ensures
-    ∙ same_there stored c.args.id c.new_rows_of.result (edits_sought c.args.id bs) (c.new_rows_of.ensures stored bs are)
+    ∙ same_there stored c.args.id c.new_rows_of.result (edits_sought c.args.id bs) (c.new_rows_of.ensures.rows stored bs are)

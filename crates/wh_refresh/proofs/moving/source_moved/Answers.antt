@@ -1,4 +1,4 @@
-use Rattle.std.proofs.Common.{◌≡◌, List, [], Contains, sym, ap, subst, ◌∙◌}
+use Rattle.std.proofs.Common.{◌≡◌, List, [], ◌++◌, Contains, sym, ap, subst, ◌∙◌}
 use Rattle.std.specs.List.{AllByRecursion}
 use denote.Ref.{Bor}
 use Rattle.wh_filed.specs.Filed.{Filed, filed_at, partitions_at}
@@ -10,8 +10,10 @@ use Rattle.wh_version.proofs.Among.{each_held}
 use Rattle.wh_version.proofs.MovedLaws.{moved_among}
 use Rattle.wh_table.specs.Table.{table_of, filed_of}
 use Rattle.wh_refresh.specs.Objects.{objects_in, filed_at_objects}
-use Rattle.wh_refresh.specs.Sources.{bag_held}
+use Rattle.wh_refresh.specs.Sources.{bag_held, filed_by}
+use Rattle.wh_refresh.specs.Asked.{Moves}
 use Rattle.wh_refresh.proofs.MovingLaws.{turn_alone, turn_none}
+use Rattle.wh_refresh.proofs.MovesLaws.{no_moves, moves_of_table}
 use Rattle.wh_refresh.proofs.moving.source_moved.Goals as goal
 
 none_in : (filed : List (Bor Filed)) → filed ≡ [] → parts_bag (partitions_at filed) ≡ no_rows
@@ -63,3 +65,24 @@ returns-clause-went c =
     (filed_of c.in-Some.table.now)
     (moved_among c.args.from c.args.to (table_of c.in-Some.table.now).versions (filed_of c.in-Some.table.now)
     (filed_at c.in_ok-went.field-0.went.items) c.in_ok-went.ensures.went) c.in-Some.ensures.among)
+
+pub returns-in_default-clause-moves : goal.returns-in_default-clause-moves
+returns-in_default-clause-moves c =
+    let came : filed_by c.filed_alone-came.result ≡ [] = c.filed_alone-came.ensures.filed
+    ∙ ap filed_at c.new.ensures.items in
+    let went : filed_by c.filed_alone-went.result ≡ [] = c.filed_alone-went.ensures.filed
+    ∙ ap filed_at c.new-in_default.ensures.items in
+    subst (λ (fs : List Filed). Moves c.args.objects.now c.args.from c.args.to c.args.id fs)
+    (sym (λ i. came i ++ went i)) (no_moves c.args.objects.now c.args.from c.args.to c.args.id)
+
+pub returns-clause-moves : goal.returns-clause-moves
+returns-clause-moves c =
+    let turned = c.in_ok-went.ensures.turned in
+    let came = c.filed_alone-came-2.ensures.filed in
+    let went = c.filed_alone-went-2.ensures.filed in
+    subst (λ (fs : List Filed). Moves c.args.objects.now c.args.from c.args.to c.args.id fs)
+    (sym (λ i. came i ++ went i))
+    (moves_of_table c.args.objects.now c.args.id c.args.from c.args.to c.in-Some.table.now
+    (filed_at c.in_ok-went.field-0.came.items) (filed_at c.in_ok-went.field-0.went.items) c.in-Some.ensures.stored
+    c.in-Some.ensures.filed turned.went_apart turned.came_apart c.in_ok-went.ensures.parts c.in_ok-went.ensures.went
+    c.in_ok-went.ensures.came)

@@ -6,9 +6,9 @@ use Rattle.wh_state.specs.Stored as file
 use Rattle.wh_state.specs.Stored.{object_meant}
 use Rattle.wh_filed.specs.Filed.{Filed, AllShown}
 use Rattle.wh_catalog.specs.Catalog.{state_of, filed_of}
-use Rattle.wh_catalog.specs.Undoable.{object_in}
-use Rattle.wh_catalog.specs.Object.{kept_object, object_of, filed_of_objects}
-use Rattle.wh_refresh.specs.Objects.{filed_at_objects, with_made, stored_made, filed_made}
+use Rattle.wh_catalog.specs.Undoable.{KeptObject, object_in}
+use Rattle.wh_catalog.specs.Object.{kept_object, kept_objects, object_of, filed_of_objects}
+use Rattle.wh_refresh.specs.Objects.{filed_at_objects, with_made, stored_made, kept_made, filed_made}
 use Rattle.wh_refresh.proofs.objects.all_objects.Goals as goal
 
 pub returns-clause-objects : goal.returns-clause-objects
@@ -34,6 +34,15 @@ returns-clause-stored c =
     ∙ ap (map (λ o. object_in (kept_object o))) (take_all c.loop-object.object-index objects c.loop-object-test.false)
     ∙ sym (map-map object_in kept_object objects)
     ∙ c.objects-object-items.ensures.objects)
+
+pub returns-clause-kept : goal.returns-clause-kept
+returns-clause-kept c =
+    let objects = c.objects-object-items.result.now in
+    c.in_ok-add_made.ensures.kept
+    ∙ ap (λ (kept : List KeptObject). kept ++ kept_made c.args.made)
+    (ap kept_objects (c.loop-object.invariant.at
+    ∙ take_all c.loop-object.object-index objects c.loop-object-test.false)
+    ∙ c.objects-object-items.ensures.kept)
 
 pub returns-clause-among : goal.returns-clause-among
 returns-clause-among c told all =

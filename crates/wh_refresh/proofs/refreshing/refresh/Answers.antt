@@ -1,8 +1,8 @@
 use Rattle.std.proofs.Common.{◌≡◌, ℕ, List, [], ◌∷◌, ◌++◌, map, Option, Some, None, option_map, Vec, Global}
 use Rattle.std.proofs.Common.{refl, subst, sym, ap, ◌∙◌}
 use Rattle.std.specs.List.{flat_map}
-use Rattle.wh_reply.specs.Reply.{Refusal, Refreshed}
-use Rattle.wh_reply.specs.View.{refusal_view}
+use Rattle.wh_reply.specs.Reply.{Refusal, Refreshed, RefreshAction}
+use Rattle.wh_reply.specs.View.{refusal_view, refreshed_view}
 use Rattle.wh_state.specs.State.{State, Object}
 use Rattle.wh_state.specs.Act.{Act}
 use Rattle.wh_state.specs.Stored.{StoredObject}
@@ -19,6 +19,8 @@ use Rattle.wh_refresh.specs.Brought.{AreBrought, Brings, BringsOr}
 use Rattle.wh_refresh.specs.Refreshing.{besides}
 use Rattle.wh_refresh.specs.declared.brought.Brought.{Brought}
 use Rattle.wh_refresh.specs.declared.refreshing.Asked.{Asked}
+use Rattle.wh_refresh.specs.Asked.{IsFiledIn, AreCounted, AsksOfAll}
+use Rattle.wh_refresh.proofs.AskLaws.{told_actions}
 use Rattle.wh_refresh.proofs.RefreshLemmas.{rises, above_rise}
 use Rattle.wh_refresh.proofs.refreshing.refresh.Given.{Over}
 use Rattle.wh_refresh.proofs.refreshing.refresh.Goals.{After-bring_all}
@@ -180,6 +182,20 @@ returns-clause-refreshed g c shown stand s same =
           (sym (c.number_refusal.ensures brings.brought (seen _ c.deref-6.ensures.value))
           ∙ ap (option_map refusal_view) c.in_default-number_refusal.is)
           ∙ ap (λ (lines : List Refreshed). machine.Brings lines acts)
-          (sym (c.in_ok-lines.ensures brings.brought (seen _ c.deref-7.ensures.value)));
+          (sym (c.in_ok-lines.ensures.lines brings.brought (seen _ c.deref-7.ensures.value)));
       written = c.in_ok-changes.ensures.written s.last brings.brought brings.are above;
     }
+
+-- ---- what is asked for
+
+pub returns-clause-asks : goal.returns-clause-asks
+returns-clause-asks g c = λ counted.
+    let after = (goal.at.returns-clause-asks g c).After-bring_all in
+    let asks = rw c.in-Some-3.is at c.in_ok-all-2.ensures.asks in
+    let told = c.in_ok-lines.ensures.actions ∙ ap (map (λ (one : Brought). one.action)) c.deref-7.ensures.value in
+    subst (λ (ids : List ℕ). AsksOfAll (IsFiledIn c.args.objects.now ids) c.args.objects.now c.args.moment ids
+    (g.F.Fetch.asked c.args.fetch.now) (g.F.Fetch.asked c.bring_all.new.fetch)) (given g after)
+    (asks (subst (λ (acts : List RefreshAction). AreCounted c.args.objects.now (asked_ids g after) acts)
+    (told_actions c.in_ok-lines.lines.items c.in-Some-3.all.items told)
+    (subst (λ (ids : List ℕ). AreCounted c.args.objects.now ids
+    (map (λ line. line.action) (map refreshed_view c.in_ok-lines.lines.items))) (sym (given g after)) counted)))

@@ -14,6 +14,7 @@ use Rattle.wh_machine.specs.Brought.{after_all}
 use Rattle.wh_refresh.specs.Objects.{objects_in}
 use Rattle.wh_refresh.specs.Rebased.{IsRebased, RebasesTo}
 use Rattle.wh_refresh.specs.declared.rebase.Rebased.{Rebased}
+use Rattle.wh_refresh.proofs.AskLaws.{change_alone, change_then_own}
 use Rattle.wh_refresh.proofs.SourceLemmas.{still_shown}
 use Rattle.wh_refresh.proofs.rows.rebased_by_change.Goals as goal
 
@@ -53,3 +54,11 @@ returns-clause-rebased g c shown own has stamp bs are above =
     (c.in_ok-change.ensures.change shown stamp bs was are above has.rows))
     (c.in_ok-rebased.ensures.rebased
     (still_shown _ _ (filed_of c.args.table.now) c.in_ok-change.ensures.same own))
+
+pub returns-in_default-clause-asks : goal.returns-in_default-clause-asks
+returns-in_default-clause-asks g c = λ linear. change_alone c.args.objects.now c.args.before.now (filed_of c.args.table.now) _ _ _ _
+    _ _ (c.in_ok-change.ensures.asks linear)
+
+pub returns-clause-asks : goal.returns-clause-asks
+returns-clause-asks g c = λ linear. change_then_own c.args.objects.now c.args.before.now (filed_of c.args.table.now) _ _ _ _ _ _ _
+    (c.in_ok-change.ensures.asks linear) c.in_ok-rebased.ensures.asks

@@ -31,7 +31,7 @@ returns-then-from-to c stamp bs are above =
     let above_from : nat_lt from to ≡ true = grind (arith, nat_tests, c.if-from-to.true) in
     c.is_some.ensures
     ∙ same_there (stored_in c.args.objects.now) c.args.id c.new_rows_of.result (edits_sought c.args.id bs)
-    (c.new_rows_of.ensures (stored_in c.args.objects.now) bs are)
+    (c.new_rows_of.ensures.rows (stored_in c.args.objects.now) bs are)
     ∙ ap (λ (b : Bool). b && new) (sym above_from)
     ∙ ap (λ (b : Bool). b || (nat_lt from to && new))
     (c.if-has_version_between.ensures ∙ between_meant from to (table_of c.in-Some.table.now))

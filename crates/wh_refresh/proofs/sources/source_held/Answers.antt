@@ -1,7 +1,8 @@
-use Rattle.std.proofs.Common.{◌≡◌, Option, Some, None, Contains, refl, sym, ap, ◌∙◌}
+use Rattle.std.proofs.Common.{◌≡◌, inl, inr, List, Option, Some, None, Contains, refl, sym, ap, subst, ◌∙◌}
 use Rattle.std.specs.FinMap.{values}
 use Rattle.wh_meaning.specs.Bag.{Bag, bag_of}
-use Rattle.wh_filed.specs.Filed.{filed_at}
+use Rattle.std.specs.List.{AllByRecursion}
+use Rattle.wh_filed.specs.Filed.{Filed, filed_at}
 use Rattle.wh_state.specs.State.{Rows, rows_at, last_rows}
 use Rattle.wh_state.specs.Act.{edited_table}
 use Rattle.wh_state.specs.Stored.{table_meant}
@@ -13,6 +14,7 @@ use Rattle.wh_table.specs.Table.{table_of, filed_of}
 use Rattle.wh_refresh.specs.Brought.{IsRowsOf}
 use Rattle.wh_refresh.specs.Objects.{objects_in, stored_in, filed_at_objects, filed_at_id}
 use Rattle.wh_refresh.specs.Sources.{bag_held, IsPartOf}
+use Rattle.wh_refresh.proofs.MovesLaws.{stands_none, stands_alone}
 use Rattle.wh_refresh.proofs.PartLaws.{part_none, part_alone, part_front}
 use Rattle.wh_refresh.proofs.RefreshLemmas.{source_none, source_old, source_new, same_next, none_there}
 use Rattle.wh_refresh.proofs.SourceLemmas.{held_none, held_alone, held_beside}
@@ -44,7 +46,7 @@ returns-in_ok-filed-in-Some-new_rows_of-clause-held c stamp bs are above =
           ∙ sym (source_new stamp moment bs objects above id e t same (sym c.in-Some.ensures.meant)
           ∙ ap (λ (rows : Rows). bag_of (values rows)) (same_next stamp moment stamp e t))
     ] in
-    by_edits (edits_sought id bs) refl (c.in-Some-new_rows_of.ensures stored bs are)
+    by_edits (edits_sought id bs) refl (c.in-Some-new_rows_of.ensures.rows stored bs are)
 
 pub returns-in_ok-filed-in-None-clause-held : goal.returns-in_ok-filed-in-None-clause-held
 returns-in_ok-filed-in-None-clause-held c stamp bs are above =
@@ -54,7 +56,7 @@ returns-in_ok-filed-in-None-clause-held c stamp bs are above =
     held_alone _ (rows_at t moment) c.in_ok-filed-in-None.ensures.holds
     ∙ sym (source_old stamp moment bs objects above c.args.id t
     (none_there (stored_in c.args.objects.now) c.args.id (edits_sought c.args.id bs)
-    (c.in-None.ensures (stored_in c.args.objects.now) bs are)) (sym c.in-Some.ensures.meant))
+    (c.in-None.ensures.rows (stored_in c.args.objects.now) bs are)) (sym c.in-Some.ensures.meant))
 
 -- ---- among the partitions of the objects
 
@@ -90,10 +92,29 @@ returns-in_ok-filed-in-Some-new_rows_of-clause-part c bs are =
           c.in_ok-filed-in-Some-new_rows_of.ensures.among (c.in_ok-filed-in-Some-new_rows_of.ensures.holds 0 e
           (is.edited (table_of c.in-Some.table.now) (sym c.in-Some.ensures.stored)))
     ] in
-    by_edits (edits_sought id bs) (c.in-Some-new_rows_of.ensures stored bs are)
+    by_edits (edits_sought id bs) (c.in-Some-new_rows_of.ensures.rows stored bs are)
 
 pub returns-in_ok-filed-in-None-clause-part : goal.returns-in_ok-filed-in-None-clause-part
 returns-in_ok-filed-in-None-clause-part c bs are =
     part_alone (filed_of c.in-Some.table.now) (filed_at_id c.args.objects.now c.args.id)
     c.in_ok-filed-in-None.filed.items _ c.in-Some.ensures.filed c.in_ok-filed-in-None.ensures.among
     c.in_ok-filed-in-None.ensures.holds
+
+-- ---- as a version of the table
+
+pub returns-in_default-clause-stands : goal.returns-in_default-clause-stands
+returns-in_default-clause-stands c =
+    inr (stands_none c.args.objects.now c.args.id c.args.moment _ c.in_default.ensures.stored c.new.ensures.items)
+
+pub returns-in_ok-filed-in-Some-new_rows_of-clause-stands : goal.returns-in_ok-filed-in-Some-new_rows_of-clause-stands
+returns-in_ok-filed-in-Some-new_rows_of-clause-stands c = inl (record {
+  among = c.in-Some-new_rows_of.ensures.among;
+  filed = subst (λ (fs : List Filed). AllByRecursion (Contains fs) (filed_at c.in_ok-filed-in-Some-new_rows_of.filed.items))
+      c.in-Some.ensures.filed c.in_ok-filed-in-Some-new_rows_of.ensures.among;
+})
+
+pub returns-in_ok-filed-in-None-clause-stands : goal.returns-in_ok-filed-in-None-clause-stands
+returns-in_ok-filed-in-None-clause-stands c =
+    inr (stands_alone c.args.objects.now c.args.id c.args.moment c.in-Some.table.now _ c.in-Some.ensures.stored
+    c.in-Some.ensures.filed c.in_ok-filed-in-None.ensures.among c.in_ok-filed-in-None.ensures.holds
+    c.in_ok-filed-in-None.ensures.stand)

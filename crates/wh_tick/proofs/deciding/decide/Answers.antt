@@ -11,6 +11,8 @@ use Rattle.wh_decide.specs.declared.event.Event.{Event}
 use Rattle.wh_decide.specs.Event.{event_of}
 use Rattle.wh_decide.specs.Decision.{Decides, machine_at}
 use Rattle.wh_decide.specs.Asked.{AsksAsRequested, AsksInEvent}
+use Rattle.wh_decide.specs.Decision.{answer_of}
+use Rattle.wh_decide.specs.RefreshAsked.{refresh_requested, refresh_in, AsksAsReplied}
 use Rattle.wh_tick.proofs.deciding.decide.Goals as goal
 
 pub returns-in-Command-clause-decided : goal.returns-in-Command-clause-decided
@@ -70,3 +72,21 @@ returns-in-Tick-clause-asks g c =
     let m = machine_at (stamped (state_of catalog) c.args.stamp) (sessions_of c.args.sessions.now) in
     subst (λ (e : Event). AsksInEvent catalog m (event_of e) c.args.fetch.now.asked.items
     c.decide_tick.new.fetch.asked.items) (sym c.in-Tick.is) tt
+
+pub returns-in-Command-clause-fetches : goal.returns-in-Command-clause-fetches
+returns-in-Command-clause-fetches g c =
+    let catalog = c.args.catalog.now in
+    let m = machine_at (stamped (state_of catalog) c.args.stamp) (sessions_of c.args.sessions.now) in
+    subst (λ (e : Event). IfOk c.decide_command.result (λ d. AsksAsReplied catalog (refresh_in m (event_of e))
+    c.args.fetch.now.asked.items c.decide_command.new.fetch.asked.items (answer_of d))) (sym c.in-Command.is)
+    (subst (λ (t : List ℕ). IfOk c.decide_command.result (λ d. AsksAsReplied catalog (refresh_requested m (request_of t))
+    c.args.fetch.now.asked.items c.decide_command.new.fetch.asked.items (answer_of d))) c.as_slice.ensures
+    c.decide_command.ensures.fetches)
+
+pub returns-in-Tick-clause-fetches : goal.returns-in-Tick-clause-fetches
+returns-in-Tick-clause-fetches g c =
+    let catalog = c.args.catalog.now in
+    let m = machine_at (stamped (state_of catalog) c.args.stamp) (sessions_of c.args.sessions.now) in
+    subst (λ (e : Event). IfOk c.decide_tick.result (λ d. AsksAsReplied catalog (refresh_in m (event_of e))
+    c.args.fetch.now.asked.items c.decide_tick.new.fetch.asked.items (answer_of d))) (sym c.in-Tick.is)
+    c.decide_tick.ensures.fetches

@@ -6,6 +6,10 @@ use Rattle.wh_dynamic.specs.View.{dynamics_in, due_of}
 use Rattle.wh_decide.specs.Sight.{machine_in}
 use Rattle.wh_decide.proofs.CatalogLemmas.{dynamics_are}
 use Rattle.wh_decide.proofs.OutcomeLemmas.{decides_as, comes_as}
+use Rattle.std.proofs.Common.{ℕ, Option, subst}
+use Rattle.std.specs.Result.{IfOk}
+use Rattle.wh_decide.specs.Decision.{answer_of}
+use Rattle.wh_decide.specs.RefreshAsked.{AsksAsReplied}
 use Rattle.wh_tick.proofs.deciding.refresh_due.Goals as goal
 
 pub due_table-requires : goal.due_table-requires
@@ -30,3 +34,25 @@ returns-clause-comes g c = λ _ _.
     ∙ ap (λ (all : Dynamics). due_table all sight.stamp)
     (ap dynamics_in c.deref.ensures.value ∙ c.in_ok-all.ensures.watched ∙ sym (dynamics_are sight.catalog.now))))
     c.idle.ensures.comes
+
+-- ---- what is asked for
+
+pub returns-in-Some-clause-fetches : goal.returns-in-Some-clause-fetches
+returns-in-Some-clause-fetches g c =
+    let sight = c.args.sight.now in
+    subst (λ (which : Option (ℕ × ℕ)). IfOk c.scheduled_refresh.result (λ d. AsksAsReplied sight.catalog.now which
+    c.args.fetch.now.asked.items c.scheduled_refresh.new.fetch.asked.items (answer_of d)))
+    (sym (ap due_of c.in-Some.is) ∙ c.in_ok-id.ensures
+    ∙ ap (λ (all : Dynamics). due_table all sight.stamp)
+    (ap dynamics_in c.deref.ensures.value ∙ c.in_ok-all.ensures.watched ∙ sym (dynamics_are sight.catalog.now)))
+    c.scheduled_refresh.ensures.fetches
+
+pub returns-clause-fetches : goal.returns-clause-fetches
+returns-clause-fetches g c =
+    let sight = c.args.sight.now in
+    subst (λ (which : Option (ℕ × ℕ)). AsksAsReplied sight.catalog.now which
+    c.args.fetch.now.asked.items c.args.fetch.now.asked.items (answer_of c.idle.result))
+    (sym (ap due_of c.in-None.is) ∙ c.in_ok-id.ensures
+    ∙ ap (λ (all : Dynamics). due_table all sight.stamp)
+    (ap dynamics_in c.deref.ensures.value ∙ c.in_ok-all.ensures.watched ∙ sym (dynamics_are sight.catalog.now)))
+    tt

@@ -1,18 +1,20 @@
-use Rattle.std.proofs.Common.{◌≡◌, ◌≤◌, [], Option, None, refl, sym, ap, subst, ◌∙◌, arith, rules}
+use Rattle.std.proofs.Common.{◌≡◌, ◌≤◌, List, [], Option, None, refl, sym, ap, subst, ◌∙◌, arith, rules}
+use Rattle.wh_part.specs.declared.meta.PartId.{PartId}
 use Rattle.wh_value.specs.Limit.{bound}
 use Rattle.wh_value.specs.declared.limit.Limit.TheVariants as limits
-use Rattle.wh_reply.specs.Reply.{Reply}
+use Rattle.wh_reply.specs.Reply.{Reply, OverLimit}
 use Rattle.wh_reply.specs.View.{reply_view}
 use Rattle.wh_state.specs.Commit.{Commit}
 use Rattle.wh_state.specs.Orderly.{IsOrderlyStored}
 use Rattle.wh_state.specs.Sound.{Sound}
+use Rattle.wh_state.specs.State.{stamped}
 use Rattle.wh_journal.specs.Journal.{failed_of}
 use Rattle.wh_machine.specs.Outcome.{Machine}
 use Rattle.wh_machine.specs.Step.{reading_of, stamp_of}
 use Rattle.wh_catalog.specs.Catalog.{stored_of, state_of, filed_of}
 use Rattle.wh_catalog.specs.declared.catalog.Catalog.{Catalog}
 use Rattle.wh_decide.specs.Event.{event_of}
-use Rattle.wh_decide.specs.Decision.{commit_in, CanSettle}
+use Rattle.wh_decide.specs.Decision.{commit_in, answer_of, machine_at, CanSettle}
 use Rattle.wh_txn.specs.View.{sessions_of}
 use Rattle.wh_engine.specs.Warehouse.{ShowsAll, IsOnlyRead, fetched_of, machine_of, decided_at, made_in, led_to}
 use Rattle.wh_engine.specs.declared.fault.Halt.{Halt}
@@ -25,6 +27,8 @@ use Rattle.wh_engine.proofs.HaltLemmas.{reopens, halted_behind, passed_on}
 use Rattle.wh_engine.proofs.CarryLemmas.{carries_nothing, carries_behind, answered_behind}
 use Rattle.wh_engine.proofs.DecidedLemmas.{Comes, turns, unstamped}
 use Rattle.wh_decide.specs.Asked.{AsksInEvent}
+use Rattle.wh_decide.specs.RefreshAsked.{refresh_in, AsksAsReplied}
+use Rattle.wh_decide.proofs.RefreshAskLaws.{refused_asks}
 use Rattle.wh_engine.proofs.AskedLemmas.{unasked, asked_behind, asked_still}
 use Rattle.wh_engine.proofs.warehouse.Warehouse.carry_out.Given.{Over}
 use Rattle.wh_engine.proofs.warehouse.Warehouse.carry_out.Goals.{After-begin, After-decide, After-settle}
@@ -127,10 +131,13 @@ module _ (g : Over) (c : After-decide g) where
       halted_behind c.args.self.now c.begin.new.self c.decide.new.self commit halt c.begin.ensures.same
       (omega (arith, ap g.D.Disk.faults c.begin.ensures.disk)) halted
 
-  -- no other partition is asked for than the event's
-  asked : AsksInEvent c.args.self.now.catalog (decided_at c.args.self.now (event_of c.args.event.now))
-      (event_of c.args.event.now) [] (fetched_of c.decide.new.self)
-  asked =
+  -- what is said of what was asked for behind the decision holds of the event
+  asked_by : (Asks : Catalog → Machine → List PartId → List PartId → Type 0)
+      → Asks c.decide.new.self.catalog (machine_at (stamped (state_of c.decide.new.self.catalog) c.max-stamp.result)
+      (sessions_of c.decide.new.self.sessions)) (fetched_of c.begin.new.self) (fetched_of c.decide.new.self)
+      → Asks c.args.self.now.catalog (decided_at c.args.self.now (event_of c.args.event.now)) []
+      (fetched_of c.decide.new.self)
+  asked_by Asks =
       let stamp : c.max-stamp.result ≡ stamp_of (state_of c.args.self.now.catalog) (reading_of (event_of c.args.event.now)) =
       omega (
         arith,
@@ -139,8 +146,15 @@ module _ (g : Over) (c : After-decide g) where
         ap (λ (catalog : Catalog). (state_of catalog).last) c.begin.ensures.same.catalog,
         c.max-stamp.ensures,
       ) in
-      asked_behind c.args.self.now c.begin.new.self c.decide.new.self (event_of c.args.event.now) c.max-stamp.result read
-      c.begin.ensures.begun stamp c.decide.ensures.asks
+      asked_behind Asks c.args.self.now c.begin.new.self c.decide.new.self (event_of c.args.event.now) c.max-stamp.result
+      read c.begin.ensures.begun stamp
+
+  -- no other partition is asked for than the event's
+  asked : AsksInEvent c.args.self.now.catalog (decided_at c.args.self.now (event_of c.args.event.now))
+      (event_of c.args.event.now) [] (fetched_of c.decide.new.self)
+  asked =
+      asked_by (λ catalog m before after. AsksInEvent catalog m (event_of c.args.event.now) before after)
+      c.decide.ensures.asks
 
 pub returns-in_err-decision-clause-asks : goal.returns-in_err-decision-clause-asks
 returns-in_err-decision-clause-asks g c = asked g (goal.at.returns-in_err-decision-clause-asks g c).After-decide
@@ -288,10 +302,34 @@ returns-clause-any_moment g c = any_moment g (goal.at.returns-clause-any_moment 
 
 pub returns-in_err-settle-clause-asks : goal.returns-in_err-settle-clause-asks
 returns-in_err-settle-clause-asks g c =
-    asked_still c.args.self.now c.decide.new.self c.settle.new.self (event_of c.args.event.now) c.settle.ensures.unread
+    asked_still (AsksInEvent c.args.self.now.catalog (decided_at c.args.self.now (event_of c.args.event.now))
+    (event_of c.args.event.now) []) c.decide.new.self c.settle.new.self c.settle.ensures.unread
     (asked g (goal.at.returns-in_err-settle-clause-asks g c).After-decide)
 
 pub returns-clause-asks : goal.returns-clause-asks
 returns-clause-asks g c =
-    asked_still c.args.self.now c.decide.new.self c.settle.new.self (event_of c.args.event.now) c.settle.ensures.unread
+    asked_still (AsksInEvent c.args.self.now.catalog (decided_at c.args.self.now (event_of c.args.event.now))
+    (event_of c.args.event.now) []) c.decide.new.self c.settle.new.self c.settle.ensures.unread
     (asked g (goal.at.returns-clause-asks g c).After-decide)
+
+-- ---- what a refresh asks for
+
+pub returns-then-bound-stamp-clause-fetches : goal.returns-then-bound-stamp-clause-fetches
+returns-then-bound-stamp-clause-fetches g c =
+    refused_asks c.args.self.now.catalog [] (fetched_of c.begin.new.self)
+    (refresh_in (decided_at c.args.self.now (event_of c.args.event.now)) (event_of c.args.event.now))
+    (OverLimit limits.Stamp)
+
+pub returns-clause-fetches : goal.returns-clause-fetches
+returns-clause-fetches g c =
+    let old = c.args.self.now in
+    let e = event_of c.args.event.now in
+    let which = refresh_in (decided_at old e) e in
+    let after = (goal.at.returns-clause-fetches g c).After-decide in
+    asked_still
+    (λ names. AsksAsReplied old.catalog which [] names (reply_view c.into_parts-reply.result.0))
+    c.decide.new.self c.settle.new.self c.settle.ensures.unread
+    (subst (AsksAsReplied old.catalog which [] (fetched_of c.decide.new.self)) (sym c.into_parts-reply.ensures.reply)
+    (asked_by g after
+    (λ catalog m before after. AsksAsReplied catalog (refresh_in m e) before after (answer_of c.in_ok-decision.decision))
+    c.in_ok-decision.ensures.fetches))
