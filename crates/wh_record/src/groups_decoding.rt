@@ -23,7 +23,8 @@ fn read_total(bytes: &[u8]) -> Result<(Total, &[u8]), ReadError>
 fn read_totals(alloc: Global, calls: u32, bytes: &[u8]) -> Result<(Vec<Total>, &[u8]), ReadError>
     ensures { Gives (λ x. (x.0.items, x.1.now)) result (items_at spec.total_at calls bytes.now) }
 {
-    let mut totals = Vec::new(alloc);
+    // each total has sixteen bytes
+    let mut totals = Vec::with_capacity(alloc, (calls as usize).min(bytes.len() / 16))?;
     let mut rest = bytes;
     for _ in 0..calls {
         let (total, after) = read_total(rest)?;
@@ -73,7 +74,8 @@ fn read_group(
 fn read_key(alloc: Global, keys: u32, bytes: &[u8]) -> Result<(Row, &[u8]), ReadError>
     ensures { Gives (λ x. (x.0, x.1.now)) result (spec.key_at keys bytes.now) }
 {
-    let mut key = Row::new(alloc);
+    // each value has a byte at least
+    let mut key = Row::with_capacity(alloc, (keys as usize).min(bytes.len()))?;
     let mut rest = bytes;
     for _ in 0..keys {
         let (value, after) = read_value(alloc, rest)?;
@@ -107,7 +109,8 @@ fn read_each_entry(
     ensures { Gives (λ x. (x.0.items, x.1.now)) result
         (items_at (spec.entry_at keys calls) count bytes.now) }
 {
-    let mut entries = Vec::new(alloc);
+    // each entry has eight bytes at least
+    let mut entries = Vec::with_capacity(alloc, (count as usize).min(bytes.len() / 8))?;
     let mut rest = bytes;
     for _ in 0..count {
         let (entry, after) = read_entry(alloc, keys, calls, rest)?;

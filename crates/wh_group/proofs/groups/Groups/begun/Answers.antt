@@ -8,8 +8,8 @@ use Rattle.wh_value.specs.Value.{Row, row_cmp}
 use Rattle.wh_value.specs.Order.{row_total}
 use Rattle.wh_meaning.proofs.KeyMaps.{gotten}
 use Rattle.wh_maintenance.specs.Entries.{set_all}
-use Rattle.wh_group.specs.Slots.{slots_of, put_slots, has_group}
-use Rattle.wh_group.proofs.SlotLaws.{kept-made, put-made}
+use Rattle.wh_group.specs.Slots.{slots_of, has_group}
+use Rattle.wh_group.proofs.SlotLaws.{kept-made}
 use Rattle.wh_group.proofs.groups.Groups.begun.Goals.{In_ok-map}
 use Rattle.wh_group.proofs.groups.Groups.begun.Goals as goal
 
@@ -20,15 +20,8 @@ made c q =
     let tree : IsFromIterResult row_cmp c.in_ok-pairs.pairs.items c.in_ok-map.map = search rules in
     gotten row_total c.in_ok-map.map.entries q ∙ tree.0 q
 
-pub returns-clause-ok : goal.returns-clause-ok
-returns-clause-ok c =
-    let entries = c.in_ok-pairs.ensures.pairs in
+pub returns : goal.returns
+returns c =
     kept-made c.in_ok-pairs.pairs.items (slots_of (record { map = c.in_ok-map.map })) (made c)
-    (ap (list_all has_group) (sym entries) ∙ c.requires)
-    ∙ ap (λ es. set_all es empty) (sym entries)
-
-pub returns-clause-was : goal.returns-clause-was
-returns-clause-was c =
-    let slots = slots_of (record { map = c.in_ok-map.map }) in
-    ap (λ es. put_slots es slots) c.in_ok-pairs.ensures.was
-    ∙ put-made c.in_ok-pairs.pairs.items slots (made c)
+    (ap (list_all has_group) (sym c.in_ok-pairs.ensures) ∙ c.requires)
+    ∙ ap (λ es. set_all es empty) (sym c.in_ok-pairs.ensures)
