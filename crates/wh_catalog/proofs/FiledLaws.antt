@@ -19,7 +19,7 @@ use Rattle.wh_filed.specs.Filed.{Filed, AllShown, AreAmong}
 use Rattle.wh_filed.proofs.ShownLaws.{shown_append, shown_front, shown_behind}
 use Rattle.wh_state.specs.State.{TableKind, StreamKind, TaskKind, DynamicKind, Stream, on_stream, on_task, on_dynamic}
 use Rattle.wh_state.specs.State.{at_id, put_at, changed_at, with_offset, live_count}
-use Rattle.wh_maintenance.specs.Entries.{GroupEntry}
+use Rattle.wh_group.specs.declared.groups.Before.{Before}
 use Rattle.wh_state.specs.Task.{Task, with_state}
 use Rattle.wh_state.specs.Dynamic.{Dynamic, with_dynamic_state}
 use Rattle.wh_state.proofs.IdLaws.{map_changed, with_same}
@@ -183,7 +183,7 @@ on_dynamics f (StreamKind s) = refl
 on_dynamics f (TaskKind t) = refl
 on_dynamics f (DynamicKind d t) = refl
 
-regrouped : (was : List GroupEntry) (k : KeptKind) → filed_in_kind (kind_regrouped was k) ≡ filed_in_kind k
+regrouped : (was : Before) (k : KeptKind) → filed_in_kind (kind_regrouped was k) ≡ filed_in_kind k
 regrouped was (TableKind t) = refl
 regrouped was (StreamKind s) = refl
 regrouped was (TaskKind t) = refl
@@ -209,7 +209,7 @@ steady_filed (SetDynamic id state) steady xs =
     changed_same (on_dynamic_kept (with_dynamic_state (dynamics.state_of state)))
     (λ o. on_dynamics (with_dynamic_state (dynamics.state_of state)) o.kind) id xs
 steady_filed (SetGroups id was) steady xs =
-    changed_same (object_regrouped was.items) (λ o. regrouped was.items o.kind) id xs
+    changed_same (object_regrouped was) (λ o. regrouped was o.kind) id xs
 
 -- ---- what a call leaves at Ok
 

@@ -1,8 +1,8 @@
 -- Objects as they were: tables without their last version, streams with the offset of before, tasks with the state or
 -- the run of before, dynamic tables with the state or the groups of before, and dropped objects that live again.
 use Rattle.std.specs.Prelude.{ℕ, true, ◌&&◌, List, map, nat_lt, if◌then◌else◌}
-use Rattle.wh_maintenance.specs.Entries.{GroupEntry}
-use Rattle.wh_group.specs.Slots.{put_slots}
+use Rattle.wh_group.specs.declared.groups.Before.{Before}
+use Rattle.wh_group.specs.Slots.{put_before}
 use Rattle.wh_value.specs.Limit.{bound}
 use Rattle.wh_value.specs.declared.limit.Limit.TheVariants as limits
 use Rattle.wh_state.specs.State.{TableKind, StreamKind, TaskKind, DynamicKind}
@@ -44,14 +44,14 @@ abbrev pub on_dynamic_kept : (Dynamic → Dynamic) → KeptObject → KeptObject
 on_dynamic_kept f o = record o { kind = on_dynamic f o.kind }
 
 -- a dynamic table with the groups of before, by what stood in their slots
-abbrev pub kind_regrouped : List GroupEntry → KeptKind → KeptKind
+abbrev pub kind_regrouped : Before → KeptKind → KeptKind
 kind_regrouped was (TableKind p) = TableKind p
 kind_regrouped was (StreamKind s) = StreamKind s
 kind_regrouped was (TaskKind t) = TaskKind t
 kind_regrouped was (DynamicKind d p) =
-    let slots = put_slots was p.slots in DynamicKind (with_slots slots d) (record p { slots = slots })
+    let slots = put_before was p.slots in DynamicKind (with_slots slots d) (record p { slots = slots })
 
-abbrev pub object_regrouped : List GroupEntry → KeptObject → KeptObject
+abbrev pub object_regrouped : Before → KeptObject → KeptObject
 object_regrouped was o = record o { kind = kind_regrouped was o.kind }
 
 -- an object lives again

@@ -34,7 +34,7 @@ step_undone (SetTask id state) objects = changed_at objects id (on_task_kept (wi
 step_undone (SetRun root run) objects = changed_at objects root (on_task_kept (holding (run_of run.items)))
 step_undone (SetDynamic id state) objects =
     changed_at objects id (on_dynamic_kept (with_dynamic_state (dynamics.state_of state)))
-step_undone (SetGroups id was) objects = changed_at objects id (object_regrouped was.items)
+step_undone (SetGroups id was) objects = changed_at objects id (object_regrouped was)
 
 -- the last step is undone first
 abbrev pub undone : List Step → List KeptObject → List KeptObject

@@ -30,7 +30,8 @@ pub struct Catalog {
 }
 
 impl Catalog {
-    ghost use Rattle.std.specs.Prelude.{◌≡◌, ◌<◌, ◌≤◌, ◌∷◌, [], length, map, option_map, IfOk, IfSome};
+    ghost use Rattle.std.specs.Prelude.{◌≡◌, ◌<◌, ◌≤◌, ◌∷◌, [], length, map, option_map};
+    ghost use Rattle.std.specs.Prelude.{IfOk, IfSome};
     ghost use Rattle.wh_value.specs.Limit.{bound};
     ghost use Rattle.wh_value.specs.declared.limit.Limit.TheVariants as limits;
     ghost use Rattle.wh_state.specs.State.{first_state, id_of, live_count};

@@ -15,7 +15,7 @@ use crate::undo::Step;
 use crate::{Catalog, StageFault, StoredKind, StoredObject};
 use std::alloc::Global;
 use wh_dynamic::{Dynamic, GroupsChange, Kept};
-use wh_group::{Entry, Groups};
+use wh_group::{Before, Entry, Groups};
 use wh_record::{ChangeIn, OutlinedChange};
 
 /// Sets groups of the dynamic table of an id, if it takes them.
@@ -51,9 +51,9 @@ pub(crate) fn set_groups(
 }
 
 /// Puts the groups of before back.
-pub(crate) fn put_groups_back(objects: &mut Vec<StoredObject>, id: u32, was: Vec<Entry>)
+pub(crate) fn put_groups_back(objects: &mut Vec<StoredObject>, id: u32, was: Before)
     ensures back { kept_objects objects.new.items
-        ≡ changed_at (kept_objects objects.old.items) id (object_regrouped was.items) }
+        ≡ changed_at (kept_objects objects.old.items) id (object_regrouped was) }
     ensures live { live_in objects.new.items ≡ live_in objects.old.items }
     ensures names { KeepsNames objects.old.items objects.new.items }
 {
@@ -65,7 +65,7 @@ pub(crate) fn put_groups_back(objects: &mut Vec<StoredObject>, id: u32, was: Vec
 }
 
 /// Lets go of the memory of groups that were removed.
-pub(crate) fn settle_groups(objects: &mut Vec<StoredObject>, id: u32, was: &[Entry])
+pub(crate) fn settle_groups(objects: &mut Vec<StoredObject>, id: u32, was: &Before)
     ensures stored { stored_objects objects.new.items ≡ stored_objects objects.old.items }
     ensures filed { filed_of_objects objects.new.items ≡ filed_of_objects objects.old.items }
     ensures live { live_in objects.new.items ≡ live_in objects.old.items }
@@ -88,13 +88,13 @@ impl StoredObject {
     ghost use Rattle.wh_catalog.specs.Back.{object_regrouped};
 
     // Sets groups of a dynamic table that lives, if it takes them. The result takes that back.
-    fn set_groups(&mut self, alloc: Global, groups: GroupsChange) -> Result<Vec<Entry>, StageFault>
+    fn set_groups(&mut self, alloc: Global, groups: GroupsChange) -> Result<Before, StageFault>
         ensures applies { OnOk result (GroupsApply
             (Some (object_in (kept_object self.old))) (groups_change_of groups)) }
         ensures set { OnOk result (object_in (kept_object self.new)
             ≡ on_dynamic_stored (behind_change (groups_change_of groups))
             (object_in (kept_object self.old))) }
-        ensures back { IfOk result (λ was. object_regrouped was.items (kept_object self.new)
+        ensures back { IfOk result (λ was. object_regrouped was (kept_object self.new)
             ≡ kept_object self.old) }
         ensures not_applicable { IsErrOf result StageFault.NotApplicable → GroupsApply
             (Some (object_in (kept_object self.old))) (groups_change_of groups) → ⊥ }
@@ -121,8 +121,8 @@ impl StoredObject {
         }
     }
 
-    fn put_groups_back(&mut self, was: Vec<Entry>)
-        ensures back { kept_object self.new ≡ object_regrouped was.items (kept_object self.old) }
+    fn put_groups_back(&mut self, was: Before)
+        ensures back { kept_object self.new ≡ object_regrouped was (kept_object self.old) }
         ensures live { self.new.is_live ≡ self.old.is_live }
         ensures name { self.new.name ≡ self.old.name }
     {
@@ -132,7 +132,7 @@ impl StoredObject {
         }
     }
 
-    fn settle_groups(&mut self, was: &[Entry])
+    fn settle_groups(&mut self, was: &Before)
         ensures stored { object_in (kept_object self.new) ≡ object_in (kept_object self.old) }
         ensures filed { filed_in_kind (kept_object self.new).kind
             ≡ filed_in_kind (kept_object self.old).kind }

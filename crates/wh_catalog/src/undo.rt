@@ -3,7 +3,7 @@ ghost use Rattle.wh_value.specs.Limit.{bound};
 ghost use Rattle.wh_value.specs.declared.limit.Limit.TheVariants as limits;
 
 use wh_dynamic::DynamicState;
-use wh_group::Entry;
+use wh_group::Before;
 use wh_task::{TaskRun, TaskState};
 
 /// A version that was pushed to the table of an id, whose next row was that one.
@@ -29,8 +29,8 @@ pub(crate) enum Step {
     SetRun { root: u32, run: Vec<TaskRun> },
     /// That of a dynamic table, by its id, with the one of before.
     SetDynamic { id: u32, state: DynamicState },
-    /// Those of a dynamic table, by its id, with what stood at each of their keys before.
-    SetGroups { id: u32, was: Vec<Entry> },
+    /// Those of a dynamic table, by its id, with what stood in their slots before.
+    SetGroups { id: u32, was: Before },
 }
 
 /// What leads back from a commit that was staged.

@@ -45,7 +45,8 @@ abbrev pub refresh_in : Machine → Event → Option (ℕ × ℕ)
 refresh_in m (Command reading session request) = refresh_requested m request
 refresh_in m (Tick reading) = refresh_acted m (action_at m)
 
-pub record AsksToRefresh (c : Catalog) (id moment : ℕ) (before after : List PartId) (lines : List Refreshed) : Type 0 where
+pub record AsksToRefresh (c : Catalog) (id moment : ℕ) (before after : List PartId) (lines : List Refreshed)
+    : Type 0 where
   pub objects : List (Bor StoredObject)
   pub all : kept_objects (objects_at objects) ≡ kept_of c
   pub asks : AsksAsTold objects moment (brought (dynamics_of (objects_in objects)) id moment) before after lines

@@ -7,7 +7,10 @@ use Rattle.wh_value.specs.Order.{row_total, row-IsAntisymmetric}
 use Rattle.wh_meaning.specs.Scalar.{of_one}
 use Rattle.wh_maintenance.specs.Standing.{Standing, if_left}
 use Rattle.wh_maintenance.specs.Entries.{GroupEntry, set_at}
-use Rattle.wh_group.specs.Slots.{Slots, put_at, put_slot, put_slots, settle_slot, settle_slots, settle_found}
+use Rattle.wh_group.specs.declared.groups.Before.{Before}
+use Rattle.wh_group.specs.declared.groups.Before.TheVariants.{Nothing, Entries}
+use Rattle.wh_group.specs.Slots.{Slots, put_at, put_slot, put_slots, put_before}
+use Rattle.wh_group.specs.Slots.{settle_slot, settle_slots, settle_found, settle_before}
 
 none_both : (b : Bool) → cond {A = Option Standing} b None None ≡ None
 none_both true = refl
@@ -24,9 +27,13 @@ none_at : (key : Row) (group : Option Standing) → put_at empty key group ≡ e
 none_at key None = none_removed key
 none_at key (Some s) = ap (λ found. cond (is_some found) (insert empty key s) empty) (get-empty row_cmp key)
 
-pub none_put : (es : List GroupEntry) → put_slots es empty ≡ empty
-none_put [] = refl
-none_put (e ∷ es) = ap (λ slots. put_slot slots e) (none_put es) ∙ none_at e.key e.group
+each_put : (es : List GroupEntry) → put_slots es empty ≡ empty
+each_put [] = refl
+each_put (e ∷ es) = ap (λ slots. put_slot slots e) (each_put es) ∙ none_at e.key e.group
+
+pub none_put : (was : Before) → put_before was empty ≡ empty
+none_put Nothing = refl
+none_put (Entries was) = each_put was.items
 
 same_both : (b : Bool) (slots : Slots) → (if b then slots else slots) ≡ slots
 same_both true slots = refl
@@ -38,6 +45,10 @@ none_found e =
     ap (λ found. set_at empty e.key (of_one if_left found)) (get-empty row_cmp e.key) ∙ none_removed e.key in
     ap (λ (slots : Slots). if is_some e.group then slots else empty) here ∙ same_both (is_some e.group) empty
 
-pub none_settled : (es : List GroupEntry) → settle_slots es empty ≡ empty
-none_settled [] = refl
-none_settled (e ∷ es) = ap (settle_slots es) (none_found e) ∙ none_settled es
+each_settled : (es : List GroupEntry) → settle_slots es empty ≡ empty
+each_settled [] = refl
+each_settled (e ∷ es) = ap (settle_slots es) (none_found e) ∙ each_settled es
+
+pub none_settled : (was : Before) → settle_before was empty ≡ empty
+none_settled Nothing = refl
+none_settled (Entries was) = each_settled was.items

@@ -7,7 +7,7 @@ use crate::query::DynamicQuery;
 use crate::reads::ids_read;
 use crate::state::DynamicState;
 use std::alloc::{AllocError, Global};
-use wh_group::Entry;
+use wh_group::Before;
 
 /// What a dynamic table has beside its rows.
 #[derive(Debug, Drop)]
@@ -25,7 +25,7 @@ impl Dynamic {
     ghost use Rattle.std.specs.Prelude.{◌≡◌, option_map, OnOk, OnErr, IfOk};
     ghost use Rattle.std.specs.Option.{option_map_or};
     ghost use Rattle.std.specs.FinMap.{empty};
-    ghost use Rattle.wh_group.specs.Slots.{put_slots, settle_slots};
+    ghost use Rattle.wh_group.specs.Slots.{put_before, settle_before};
     ghost use Rattle.wh_state.specs.Dynamic as machine;
     ghost use Rattle.wh_dynamic.specs.View.{query_of, state_of, dynamic_of, kept_of, kept_slots};
     ghost use Rattle.wh_dynamic.specs.View.{groups_change_of, slots_in, with_slots};
@@ -95,29 +95,24 @@ impl Dynamic {
     }
 
     /// Sets groups, where it is kept, and gives what takes that back.
-    pub fn set_groups(
-        &mut self,
-        alloc: Global,
-        change: GroupsChange,
-    ) -> Result<Vec<Entry>, AllocError>
+    pub fn set_groups(&mut self, alloc: Global, change: GroupsChange) -> Result<Before, AllocError>
         ensures set { OnOk result (dynamic_of self.new
             ≡ machine.behind_change (groups_change_of change) (dynamic_of self.old)) }
-        ensures was { IfOk result (λ was. slots_in self.old
-            ≡ put_slots was.items (slots_in self.new)) }
+        ensures was { IfOk result (λ was. slots_in self.old ≡ put_before was (slots_in self.new)) }
         ensures same { OnErr result (dynamic_of self.new ≡ dynamic_of self.old) }
         ensures same_slots { OnErr result (slots_in self.new ≡ slots_in self.old) }
     {
         match &mut self.kept {
             Some(kept) => kept.set(alloc, change.entries),
-            None => Ok(Vec::new(alloc)),
+            None => Ok(Before::Nothing),
         }
     }
 
     /// Puts groups back as they were. Takes no memory.
-    pub fn put_groups_back(&mut self, was: Vec<Entry>)
+    pub fn put_groups_back(&mut self, was: Before)
         ensures back { dynamic_of self.new
-            ≡ with_slots (put_slots was.items (slots_in self.old)) (dynamic_of self.old) }
-        ensures slots { slots_in self.new ≡ put_slots was.items (slots_in self.old) }
+            ≡ with_slots (put_before was (slots_in self.old)) (dynamic_of self.old) }
+        ensures slots { slots_in self.new ≡ put_before was (slots_in self.old) }
     {
         if let Some(kept) = &mut self.kept {
             kept.put_back(was);
@@ -125,9 +120,9 @@ impl Dynamic {
     }
 
     /// Lets go of the memory of groups that were removed.
-    pub fn settle_groups(&mut self, was: &[Entry])
+    pub fn settle_groups(&mut self, was: &Before)
         ensures same { dynamic_of self.new ≡ dynamic_of self.old }
-        ensures slots { slots_in self.new ≡ settle_slots was.now (slots_in self.old) }
+        ensures slots { slots_in self.new ≡ settle_before was.now (slots_in self.old) }
     {
         if let Some(kept) = &mut self.kept {
             kept.settle(was);

@@ -1,6 +1,6 @@
 //! Groups that are kept of a dynamic table.
 use std::alloc::{AllocError, Global};
-use wh_group::{Entry, Groups};
+use wh_group::{Before, Entry, Groups};
 
 /// The groups of a table whose query is one Group over a linear query.
 #[derive(Debug, Drop)]
@@ -22,7 +22,7 @@ pub struct GroupsChange {
 impl Kept {
     ghost use Rattle.std.specs.Prelude.{◌≡◌, OnOk, OnErr, IfOk};
     ghost use Rattle.std.specs.FinMap.{empty};
-    ghost use Rattle.wh_group.specs.Slots.{slots_of, kept_groups, put_slots, settle_slots};
+    ghost use Rattle.wh_group.specs.Slots.{slots_of, kept_groups, put_before, settle_before};
     ghost use Rattle.wh_group.specs.Slots.{groups_of_slots};
     ghost use Rattle.wh_state.specs.Dynamic.{behind_entries};
     ghost use Rattle.wh_dynamic.specs.View.{kept_of, kept_slots};
@@ -61,15 +61,11 @@ impl Kept {
     }
 
     /// Sets groups, all or none, and gives what takes that back.
-    pub(crate) fn set(
-        &mut self,
-        alloc: Global,
-        entries: Vec<Entry>,
-    ) -> Result<Vec<Entry>, AllocError>
+    pub(crate) fn set(&mut self, alloc: Global, entries: Vec<Entry>) -> Result<Before, AllocError>
         ensures set { OnOk result (kept_of self.new
             ≡ behind_entries entries.items (kept_of self.old)) }
         ensures was { IfOk result (λ was. kept_slots self.old
-            ≡ put_slots was.items (kept_slots self.new)) }
+            ≡ put_before was (kept_slots self.new)) }
         ensures same { OnErr result (kept_of self.new ≡ kept_of self.old) }
         ensures same_slots { OnErr result (kept_slots self.new ≡ kept_slots self.old) }
     {
@@ -77,19 +73,19 @@ impl Kept {
     }
 
     /// Puts groups back as they were. Takes no memory.
-    pub(crate) fn put_back(&mut self, was: Vec<Entry>)
+    pub(crate) fn put_back(&mut self, was: Before)
         ensures kept { kept_of self.new ≡ record (kept_of self.old) {
-          groups = groups_of_slots (put_slots was.items (kept_slots self.old));
+          groups = groups_of_slots (put_before was (kept_slots self.old));
         } }
-        ensures slots { kept_slots self.new ≡ put_slots was.items (kept_slots self.old) }
+        ensures slots { kept_slots self.new ≡ put_before was (kept_slots self.old) }
     {
         self.groups.put_back_all(was);
     }
 
     /// Lets go of the memory of groups that were removed.
-    pub(crate) fn settle(&mut self, was: &[Entry])
+    pub(crate) fn settle(&mut self, was: &Before)
         ensures kept { kept_of self.new ≡ kept_of self.old }
-        ensures slots { kept_slots self.new ≡ settle_slots was.now (kept_slots self.old) }
+        ensures slots { kept_slots self.new ≡ settle_before was.now (kept_slots self.old) }
     {
         self.groups.settle_all(was);
     }

@@ -35,7 +35,8 @@ pub record CarriesOut {D : Type 0} {seen : Ghosts D} (old new : Warehouse D seen
   pub stepped : machine_of new ≡ machine
   pub stored : stored_of new.catalog ≡ kept_after (stored_of old.catalog) commit
   -- the file goes with the state, and what was all on the disk still is
-  pub filed : Filed (seen.bytes old.fetch.disk) old.journal old.catalog → Filed (seen.bytes new.fetch.disk) new.journal new.catalog
+  pub filed : Filed (seen.bytes old.fetch.disk) old.journal old.catalog
+      → Filed (seen.bytes new.fetch.disk) new.journal new.catalog
   -- whose records are those before and the commit's
   pub adds : AddsCommit (seen.bytes old.fetch.disk) (seen.bytes new.fetch.disk) old.journal new.journal
       old.catalog new.catalog commit

@@ -18,4 +18,5 @@ StandsForEither old new image = Stands image (at_rest old) ⊎ Stands image (at_
 pub record Leaves {D : Type 0} {seen : Ghosts D} (old new : Warehouse D seen) (state : State) : Type 0 where
   pub each : (file : List ℕ) → seen.bytes old.fetch.disk ≡ Some file → Only file (seen.may_leave old.fetch.disk)
       → Filed (seen.bytes old.fetch.disk) old.journal old.catalog
-      → LeavesOnly seen.moment seen.left_since old.fetch.disk new.fetch.disk (StandsForEither (state_of old.catalog) state)
+      → LeavesOnly seen.moment seen.left_since old.fetch.disk new.fetch.disk
+      (StandsForEither (state_of old.catalog) state)

@@ -4,7 +4,8 @@
 --     Carries, CarriesAt              one of them leads there, the one at a place
 --     CarriesNone, CarriesNoneAt      no commit that it spells applies
 --     StraysAt, Strays                one of them carries none, and this is the position of its record
---     ShowsListed                     whatever follows the listed payloads, their records show partitions where they are
+--     ShowsListed                     whatever follows the listed payloads, their records show partitions where they
+--                                     are
 --                                     filed
 --     OnlyReads                       nothing is written
 use Rattle.std.specs.Prelude.{◌≡◌, ℕ, Option, Some, List, ◌∷◌, ◌++◌, length, map, take, slice_get}

@@ -5,7 +5,8 @@
 --     put-replaced, put-inserted, put-absent      a call taken back
 --     put_slots-push           of several calls the last is taken back first
 --     settled_gone, settled_there, kept-settled     a slot without a group goes, and no group with it
---     kept-made, put-made      slots made at once: their groups, and that they can be taken back
+--     kept-made                the groups of slots made at once
+--     set_slots                those of entries, each with a group
 --     none_copied, some_copied      what a look finds
 use Rattle.std.specs.Prelude.{◌≡◌, ◌≢◌, ℕ, zero, suc, Bool, true, false, cond, List, [], ◌∷◌, ◌++◌, Option, Some, None}
 use Rattle.std.specs.Prelude.{is_some, if◌then◌else◌, map}
@@ -27,7 +28,7 @@ use Rattle.wh_maintenance.specs.Entries.{GroupEntry, set_at, set_all}
 use Rattle.wh_maintenance.proofs.Keys.{self_tied}
 use Rattle.wh_maintenance.proofs.EntryLaws.{get-set_at}
 use Rattle.wh_group.specs.Slots.{Slots, standing_in, groups_of_slots, put_slot, put_slots, settle_slot, settle_found}
-use Rattle.wh_group.specs.Slots.{settle_slots, has_group, setting, unmaking}
+use Rattle.wh_group.specs.Slots.{settle_slots, has_group, slot_of, setting}
 
 -- ---- the groups
 
@@ -228,28 +229,25 @@ module _ (slots : Slots) where
       ∙ ap (set_all (map setting pairs)) (kept-insert old p.0 p.1
       ∙ ap (set_at (groups_of_slots old) p.0) (whole p.1 here.0))
 
-  -- a key that had nothing before has nothing once they are taken back
-  unmade : (pairs : List (Row × Standing)) (before : Row → Option Standing) → Writes before pairs
-      → (q : Row) → before q ≡ None → get (put_slots (map unmaking pairs) slots) q ≡ None
-  unmade [] before has q none = has q ∙ none
-  unmade (p ∷ pairs) before has q none =
-      let behind = put_slots (map unmaking pairs) slots in
-      get-remove row_total behind p.0 q
-      ∙ elim (eq_by_cmp row_cmp q p.0) as (λ t. eq_by_cmp row_cmp q p.0 ≡ t → cond t None (get behind q) ≡ None) [
-        | true ↦ λ t. refl
-        | false ↦ λ t. unmade pairs (update (eq_by_cmp row_cmp) before p.0 (Some p.1)) has q
-            (ap (λ t. cond t (Some p.1) (before q)) ((eq_by_cmp_equiv row_total).symm p.0 q ∙ t) ∙ none)
-      ] refl
+pub kept-made : (pairs : List (Row × Standing)) (slots : Slots) → Writes slots (λ _. None) pairs
+    → list_all has_group (map setting pairs) ≡ true → groups_of_slots slots ≡ set_all (map setting pairs) empty
+kept-made pairs slots has groups =
+    kept-written slots pairs (λ _. None) empty (λ q. sym (get-empty row_cmp q)) has groups
+    ∙ ap (set_all (map setting pairs)) kept-none
 
-module _ (pairs : List (Row × Standing)) (slots : Slots) (has : Writes slots (λ _. None) pairs) where
-  pub kept-made : list_all has_group (map setting pairs) ≡ true
-      → groups_of_slots slots ≡ set_all (map setting pairs) empty
-  kept-made groups =
-      kept-written slots pairs (λ _. None) empty (λ q. sym (get-empty row_cmp q)) has groups
-      ∙ ap (set_all (map setting pairs)) kept-none
+-- the slot that an entry fills, where it has a group
+set_slot : (e : GroupEntry) → has_group e ≡ true → setting (slot_of e) ≡ e
+set_slot e groups = elim e.group as (λ g. is_some (of_one if_left g) ≡ true
+    → setting (slot_of (record { key = e.key; group = g })) ≡ record { key = e.key; group = g }) [
+      | None ↦ λ t. absurd cc
+      | Some s ↦ λ t. refl
+    ] groups
 
-  pub put-made : put_slots (map unmaking pairs) slots ≡ empty
-  put-made = same_slots _ _ (λ q. unmade slots pairs (λ _. None) has q refl ∙ sym (get-empty row_cmp q))
+pub set_slots : (es : List GroupEntry) → list_all has_group es ≡ true → map setting (map slot_of es) ≡ es
+set_slots [] groups = refl
+set_slots (e ∷ es) groups =
+    let here = and_parts (has_group e) (list_all has_group es) groups in
+    ap (λ x. x ∷ map setting (map slot_of es)) (set_slot e here.0) ∙ ap (λ xs. e ∷ xs) (set_slots es here.1)
 
 -- ---- what a look finds
 

@@ -1,7 +1,7 @@
 //! Kept groups by key.
-ghost use Rattle.std.specs.Prelude.{◌≡◌, true, map, IfOk};
+ghost use Rattle.std.specs.Prelude.{◌≡◌};
 ghost use Rattle.std.specs.List.{list_all};
-ghost use Rattle.wh_group.specs.Slots.{has_group, setting, unmaking};
+ghost use Rattle.wh_group.specs.Slots.{has_group};
 
 use crate::standing::Standing;
 use std::alloc::{AllocError, Global};
@@ -30,7 +30,7 @@ impl Model for Entry {
 
 impl Entry {
     ghost use Rattle.std.specs.Prelude.{◌≡◌};
-    ghost use Rattle.wh_group.specs.Slots.{has_group};
+    ghost use Rattle.wh_group.specs.Slots.{has_group, slot_of};
 
     fn has_group(&self) -> bool
         ensures { result ≡ has_group self.now }
@@ -40,6 +40,22 @@ impl Entry {
             None => false,
         }
     }
+
+    // The slot that the entry fills, which has no rows where it has no group.
+    fn into_slot(self, alloc: Global) -> (Row, Standing)
+        ensures { result ≡ slot_of self }
+    {
+        (self.key, self.group.unwrap_or(Standing::gone(alloc)))
+    }
+}
+
+/// What stood before a call of `Groups::set_all`, which takes that call back.
+#[derive(Debug, Drop)]
+pub enum Before {
+    /// No slot at all.
+    Nothing,
+    /// In the slot of each key, from the first that was set to the last.
+    Entries(Vec<Entry>),
 }
 
 /// Kept groups, each in the slot of its key. A group that is removed leaves its slot, with no
@@ -58,7 +74,8 @@ impl Groups {
     ghost use Rattle.wh_maintenance.specs.Entries as meaning;
     ghost use Rattle.wh_maintenance.specs.Entries.{set_one};
     ghost use Rattle.wh_group.specs.Slots.{slots_of, kept_groups, put_slot, put_slots};
-    ghost use Rattle.wh_group.specs.Slots.{settle_slot, settle_slots, has_group, Replaces};
+    ghost use Rattle.wh_group.specs.Slots.{settle_slot, settle_slots, put_before, settle_before};
+    ghost use Rattle.wh_group.specs.Slots.{has_group, Replaces};
 
     /// No slot yet. Takes no memory.
     pub fn new(alloc: Global) -> Groups
@@ -123,30 +140,74 @@ impl Groups {
     }
 
     /// Sets entries from the first to the last, all or none, and gives what takes that back.
-    pub fn set_all(&mut self, alloc: Global, entries: Vec<Entry>) -> Result<Vec<Entry>, AllocError>
+    pub fn set_all(&mut self, alloc: Global, entries: Vec<Entry>) -> Result<Before, AllocError>
+        ensures ok { OnOk result
+            (kept_groups self.new ≡ meaning.set_all entries.items (kept_groups self.old)) }
+        ensures was { IfOk result (λ was. slots_of self.old ≡ put_before was (slots_of self.new)) }
+        ensures err { OnErr result (slots_of self.new ≡ slots_of self.old) }
+    {
+        if self.map.is_empty() && have_groups(&entries) {
+            *self = Groups::begun(alloc, entries)?;
+            return Ok(Before::Nothing);
+        }
+        let was = self.set_each(alloc, entries)?;
+        Ok(Before::Entries(was))
+    }
+
+    /// Takes a call of `set_all` back. Takes no memory.
+    pub fn put_back_all(&mut self, was: Before)
+        ensures { slots_of self.new ≡ put_before was (slots_of self.old) }
+    {
+        match was {
+            Before::Nothing => self.map.clear(),
+            Before::Entries(was) => self.put_back_each(was),
+        }
+    }
+
+    /// Removes the slots that a call of `set_all` found, by what it gave, where their groups were
+    /// removed. Takes no memory.
+    pub fn settle_all(&mut self, was: &Before)
+        ensures slots { slots_of self.new ≡ settle_before was.now (slots_of self.old) }
+
+        // So no group is another.
+        ensures groups { kept_groups self.new ≡ kept_groups self.old }
+    {
+        match was {
+            Before::Nothing => {}
+            Before::Entries(was) => self.settle_each(was),
+        }
+    }
+
+    // What entries set into no slot at all. The tree is built at once, without a search.
+    fn begun(alloc: Global, entries: Vec<Entry>) -> Result<Groups, AllocError>
+        requires { list_all has_group entries.items ≡ true }
+        ensures { IfOk result (λ begun. kept_groups begun ≡ meaning.set_all entries.items empty) }
+    {
+        let slots = entries.into_iter().map(|entry| entry.into_slot(alloc));
+        let map = slots.collect(alloc)?;
+        Ok(Groups { map })
+    }
+
+    // Sets entries one after the other, all or none, and gives what stood in their slots.
+    fn set_each(&mut self, alloc: Global, entries: Vec<Entry>) -> Result<Vec<Entry>, AllocError>
         ensures ok { OnOk result
             (kept_groups self.new ≡ meaning.set_all entries.items (kept_groups self.old)) }
         ensures was { IfOk result
             (λ was. slots_of self.old ≡ put_slots was.items (slots_of self.new)) }
         ensures err { OnErr result (slots_of self.new ≡ slots_of self.old) }
     {
-        if self.map.is_empty() && have_groups(&entries) {
-            let (begun, was) = Groups::begun(alloc, entries)?;
-            *self = begun;
-            return Ok(was);
-        }
         let mut was = Vec::with_capacity(alloc, entries.len())?;
         for entry in entries {
             let Ok(()) = self.set_next(alloc, entry, &mut was) else {
-                self.put_back_all(was);
+                self.put_back_each(was);
                 return Err(AllocError);
             };
         }
         Ok(was)
     }
 
-    /// Takes a call of `set_all` back. Takes no memory.
-    pub fn put_back_all(&mut self, was: Vec<Entry>)
+    // Puts back what stood in slots, from the last to the first.
+    fn put_back_each(&mut self, was: Vec<Entry>)
         ensures { slots_of self.new ≡ put_slots was.items (slots_of self.old) }
     {
         let mut was = was;
@@ -155,12 +216,9 @@ impl Groups {
         }
     }
 
-    /// Removes the slots that a call of `set_all` found, by what it gave, where their groups were
-    /// removed. Takes no memory.
-    pub fn settle_all(&mut self, was: &[Entry])
+    // Removes slots that were found, where their groups were removed.
+    fn settle_each(&mut self, was: &[Entry])
         ensures slots { slots_of self.new ≡ settle_slots was.now (slots_of self.old) }
-
-        // So no group is another.
         ensures groups { kept_groups self.new ≡ kept_groups self.old }
     {
         for entry in was {
@@ -169,19 +227,6 @@ impl Groups {
                 self.settle(&entry.key);
             }
         }
-    }
-
-    // What entries set into no slot at all, and what takes that back. The tree is built at once,
-    // without a search.
-    fn begun(alloc: Global, entries: Vec<Entry>) -> Result<(Groups, Vec<Entry>), AllocError>
-        requires { list_all has_group entries.items ≡ true }
-        ensures ok { IfOk result
-            (λ begun. kept_groups begun.0 ≡ meaning.set_all entries.items empty) }
-        ensures was { IfOk result (λ begun. put_slots begun.1.items (slots_of begun.0) ≡ empty) }
-    {
-        let (pairs, was) = parted(alloc, entries)?;
-        let map = pairs.into_iter().collect(alloc)?;
-        Ok((Groups { map }, was))
     }
 
     // Sets an entry, and adds what takes that back.
@@ -220,11 +265,7 @@ impl Groups {
         ensures ok { kept_groups self.new ≡ remove (kept_groups self.old) key }
         ensures was { slots_of self.old ≡ put_slot (slots_of self.new) result }
     {
-        let gone = Standing {
-            rows: 0,
-            totals: Vec::new(alloc),
-        };
-        match self.replace(&key, gone) {
+        match self.replace(&key, Standing::gone(alloc)) {
             Ok(was) => Entry {
                 key,
                 group: Some(was),
@@ -249,27 +290,4 @@ fn have_groups(entries: &[Entry]) -> bool
     ensures { result ≡ list_all has_group entries.now }
 {
     entries.iter().all(|entry| entry.has_group())
-}
-
-// The groups of entries by key, and what takes their slots back where there was none.
-fn parted(
-    alloc: Global,
-    entries: Vec<Entry>,
-) -> Result<(Vec<(Row, Standing)>, Vec<Entry>), AllocError>
-    requires { list_all has_group entries.items ≡ true }
-    ensures pairs { IfOk result (λ parted. entries.items ≡ map setting parted.0.items) }
-    ensures was { IfOk result (λ parted. parted.1.items ≡ map unmaking parted.0.items) }
-{
-    let mut pairs = Vec::with_capacity(alloc, entries.len())?;
-    let mut was = Vec::with_capacity(alloc, entries.len())?;
-    for entry in entries {
-        let Entry { key, group } = entry;
-        let copy = key.copy(alloc)?;
-        was.push(Entry {
-            key: copy,
-            group: None,
-        })?;
-        pairs.push((key, group.unwrap()))?;
-    }
-    Ok((pairs, was))
 }

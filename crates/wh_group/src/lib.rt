@@ -15,7 +15,7 @@ mod updating;
 mod worked;
 
 pub use grouping::{Grouping, grouping_of, is_linear};
-pub use groups::{Entry, Groups};
+pub use groups::{Before, Entry, Groups};
 pub use settling::Updated;
 pub use standing::{Standing, Total};
 pub use updating::updated;

@@ -46,6 +46,17 @@ impl Standing {
     ghost use Rattle.std.specs.Prelude.{◌≡◌, IfOk};
     ghost use Rattle.wh_algebra.specs.View.{calls_of};
     ghost use Rattle.wh_group.specs.Tally.{begun_standing};
+    ghost use Rattle.wh_group.specs.Slots.{gone};
+
+    // What a group that is removed leaves.
+    pub(crate) fn gone(alloc: Global) -> Standing
+        ensures { result ≡ gone }
+    {
+        Standing {
+            rows: 0,
+            totals: Vec::new(alloc),
+        }
+    }
 
     /// Of no rows.
     pub(crate) fn begun(alloc: Global, calls: &[Call]) -> Result<Standing, AllocError>

@@ -1,4 +1,4 @@
-use crate::{Entry, Groups, Standing, updated};
+use crate::{Before, Entry, Groups, Standing, updated};
 use std::alloc::Global;
 use std::process::Abort;
 use wh_algebra::Call;
@@ -29,7 +29,7 @@ fn moved(
     groups: &mut Groups,
     comes: &[[i64; 2]],
     goes: &[[i64; 2]],
-) -> ((usize, usize, usize), Vec<Entry>) {
+) -> ((usize, usize, usize), Before) {
     let by = [Scalar::Column(0)];
     let calls = [Call::Sum(Scalar::Column(1)), Call::CountRows];
     let comes = rows_of(rt, alloc, comes);

@@ -8,3 +8,4 @@ pub mod FileLaws
 pub mod ShapeLemmas
 pub mod FieldLaws
 pub mod PlaceLaws
+pub mod SizeLaws

@@ -89,7 +89,8 @@ change_with version_by runs_of query_by (SetsOffset id offset) = machine.SetsOff
 change_with version_by runs_of query_by (CreatesTask c) = machine.CreatesTask (task_in runs_of c)
 change_with version_by runs_of query_by (SetsTask id state) = machine.SetsTask id (state_of state)
 change_with version_by runs_of query_by (StartsRun root tasks) = machine.StartsRun root tasks.items
-change_with version_by runs_of query_by (FinishesTask root task ending) = machine.FinishesTask root task (ending_of ending)
+change_with version_by runs_of query_by (FinishesTask root task ending) =
+    machine.FinishesTask root task (ending_of ending)
 change_with version_by runs_of query_by (CreatesDynamic c) = machine.CreatesDynamic (dynamic_in query_by c)
 change_with version_by runs_of query_by (SetsDynamic id state) = machine.SetsDynamic id (dynamic_tables.state_of state)
 change_with version_by runs_of query_by (SetsGroups id groups) = machine.SetsGroups id (groups_change_of groups)

@@ -10,20 +10,31 @@ use wh_group::{Entry, Standing, Total};
 use wh_part::{ReadError, read_u32, read_u64, read_value};
 use wh_value::{Row, cmp_rows};
 
+/// A total, whose sixteen bytes are there or none is read.
 #[tactic(auto, unfolding(crate::specs::Decoding::total_at))]
 fn read_total(bytes: &[u8]) -> Result<(Total, &[u8]), ReadError>
     ensures { Gives (λ x. (x.0, x.1.now)) result (spec.total_at bytes.now) }
 {
-    let (bits, rest) = read_u64(bytes)?;
-    let (values, rest) = read_u64(rest)?;
-    let sum = bits.cast_signed();
+    if bytes.len() < 16 {
+        return Err(ReadError::Malformed);
+    }
+    let (bits, behind) = bytes.split_at(8);
+    let (values, rest) = behind.split_at(8);
+    let sum = u64::from_be_bytes([
+        bits[0], bits[1], bits[2], bits[3], bits[4], bits[5], bits[6], bits[7],
+    ])
+    .cast_signed();
+    let values = u64::from_be_bytes([
+        values[0], values[1], values[2], values[3], values[4], values[5], values[6], values[7],
+    ]);
     Ok((Total { sum, values }, rest))
 }
 
 fn read_totals(alloc: Global, calls: u32, bytes: &[u8]) -> Result<(Vec<Total>, &[u8]), ReadError>
     ensures { Gives (λ x. (x.0.items, x.1.now)) result (items_at spec.total_at calls bytes.now) }
 {
-    let mut totals = Vec::new(alloc);
+    // each total has sixteen bytes
+    let mut totals = Vec::with_capacity(alloc, (calls as usize).min(bytes.len() / 16))?;
     let mut rest = bytes;
     for _ in 0..calls {
         let (total, after) = read_total(rest)?;
@@ -73,7 +84,8 @@ fn read_group(
 fn read_key(alloc: Global, keys: u32, bytes: &[u8]) -> Result<(Row, &[u8]), ReadError>
     ensures { Gives (λ x. (x.0, x.1.now)) result (spec.key_at keys bytes.now) }
 {
-    let mut key = Row::new(alloc);
+    // each value has a byte at least
+    let mut key = Row::with_capacity(alloc, (keys as usize).min(bytes.len()))?;
     let mut rest = bytes;
     for _ in 0..keys {
         let (value, after) = read_value(alloc, rest)?;
@@ -107,7 +119,8 @@ fn read_each_entry(
     ensures { Gives (λ x. (x.0.items, x.1.now)) result
         (items_at (spec.entry_at keys calls) count bytes.now) }
 {
-    let mut entries = Vec::new(alloc);
+    // each entry has eight bytes at least
+    let mut entries = Vec::with_capacity(alloc, (count as usize).min(bytes.len() / 8))?;
     let mut rest = bytes;
     for _ in 0..count {
         let (entry, after) = read_entry(alloc, keys, calls, rest)?;

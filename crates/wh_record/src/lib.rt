@@ -9,6 +9,7 @@ mod encoding;
 mod format;
 mod groups_decoding;
 mod groups_encoding;
+mod groups_size;
 mod outlining;
 mod size;
 mod task_decoding;

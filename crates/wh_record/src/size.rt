@@ -8,6 +8,7 @@ ghost use Rattle.wh_record.specs.Places as places;
 ghost use Rattle.wh_record.specs.View.{version_change_of, written_of};
 
 use crate::encoding::write_plain;
+use crate::groups_size::groups_size;
 use crate::{ChangeIn, OutlinedChange, OutlinedVersion};
 use std::alloc::{AllocError, Global};
 use wh_filed::{FiledPartition, filed_from};
@@ -84,14 +85,16 @@ impl OutlinedChange {
     ghost use Rattle.wh_record.specs.Places as places;
     ghost use Rattle.wh_record.specs.View.{change_of};
 
-    /// How many bytes the change has in a commit's record, its tag too. Those of a new version are
-    /// counted alone. `AllocError` is also the answer where they are no number of 64 bits, or where
-    /// `Commit::encode` refuses another change.
+    /// How many bytes the change has in a commit's record, its tag too. Those of a new version and
+    /// of groups are counted alone. `AllocError` is also the answer where they are no number of 64
+    /// bits, or where `Commit::encode` refuses another change.
+    #[tactic(auto, using(crate::proofs::SizeLaws::groups_size))]
     pub fn size(&self, alloc: Global) -> Result<u64, AllocError>
         ensures { IfOk result (λ size. size ≡ places.change_size (change_of self.now)) }
     {
         match self {
             ChangeIn::PushesVersion(version) => version_size(version),
+            ChangeIn::SetsGroups { groups, .. } => groups_size(groups),
             _ => written_size(alloc, self),
         }
     }

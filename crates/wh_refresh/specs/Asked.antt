@@ -7,8 +7,8 @@
 --     StandsAt            a source holds the partitions of a version of its table for a moment
 --     IsBroughtIn         its table was brought, and it holds partitions of it
 --     AllStanding         one or the other of each source
---     AsksBeside          besides those of which something holds, each name came on the list at most as often as it stands
---                         on another
+--     AsksBeside          besides those of which something holds, each name came on the list at most as often as it
+--                         stands on another
 --     AsksByMoves         so of those that moved in the sources of a query, of each source as often as it is scanned
 --     AsksOfChange        so of the query of a dynamic table
 --     Besides             a partition of those brought so far, or one of some
@@ -81,7 +81,8 @@ pub record IsBroughtIn (objects : List (Bor StoredObject)) (brought : List ℕ) 
 abbrev pub AllStanding : List (Bor StoredObject) → List ℕ → ℕ → List ℕ → List SourceHeld → Type 0
 AllStanding objects brought moment [] [] = Unit {0}
 AllStanding objects brought moment (id ∷ ids) (source ∷ sources) =
-    (IsBroughtIn objects brought id source ⊎ StandsAt objects moment id source) × AllStanding objects brought moment ids sources
+    (IsBroughtIn objects brought id source ⊎ StandsAt objects moment id source)
+    × AllStanding objects brought moment ids sources
 AllStanding objects brought moment _ _ = ⊥
 
 pub record AsksBeside (Own : Filed → Type 0) (names before after : List PartId) : Type 0 where
@@ -108,8 +109,8 @@ IsCounted objects d = (linear (query_bound (objects_in objects) d.query).query �
 abbrev pub IsCountedAt : List (Bor StoredObject) → ℕ → Type 0
 IsCountedAt objects id = (d : Dynamic) → dynamic_at (objects_in objects) id ≡ Some d → IsCounted objects d
 
-pub record AsksOf (Own : Filed → Type 0) (objects : List (Bor StoredObject)) (moment id : ℕ) (before after : List PartId)
-    : Type 0 where
+pub record AsksOf (Own : Filed → Type 0) (objects : List (Bor StoredObject)) (moment id : ℕ)
+    (before after : List PartId) : Type 0 where
   pub dynamic : Dynamic
   pub found : dynamic_at (objects_in objects) id ≡ Some dynamic
   pub asks : AsksOfChange Own objects moment dynamic before after

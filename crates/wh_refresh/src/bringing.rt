@@ -15,7 +15,8 @@ ghost use Rattle.wh_refresh.specs.Objects.{objects_in, stored_in, filed_at_objec
 ghost use Rattle.wh_refresh.specs.Brought.{AreBrought, HoldsBehind, BringsOneOr, BringsOr};
 ghost use Rattle.wh_refresh.specs.Brought.{MakesRows};
 ghost use Rattle.wh_refresh.specs.Standing.{StandsBy, AllStand};
-ghost use Rattle.wh_refresh.specs.Asked.{ids_of, actions_of, IsFiledIn, Besides, IsCounted, IsCountedBy};
+ghost use Rattle.wh_refresh.specs.Asked.{ids_of, actions_of, IsFiledIn, Besides};
+ghost use Rattle.wh_refresh.specs.Asked.{IsCounted, IsCountedBy};
 ghost use Rattle.wh_refresh.specs.Asked.{AreCounted, AsksOfChange, AsksOf, AsksOfAll};
 
 use crate::brought::{Brought, NewRows};
@@ -80,7 +81,8 @@ fn bring<F: Fetch>(
     ensures sound { AllShownBy (F.contents fetch.old) (filed_at_objects objects.now)
         → F.damage fetch.new ≡ F.damage fetch.old }
     ensures asks { IfOk result (λ found. IfSome found (λ one.
-        IsCountedBy objects.now id (action_view one.action) → AsksOf (IsFiledIn objects.now (ids_of before.now ++ id ∷ []))
+        IsCountedBy objects.now id (action_view one.action)
+        → AsksOf (IsFiledIn objects.now (ids_of before.now ++ id ∷ []))
         objects.now moment id (F.asked fetch.old) (F.asked fetch.new))) }
     ensures id { IfOk result (λ found. IfSome found (λ one. one.id ≡ id)) }
     ensures same { F.contents fetch.new ≡ F.contents fetch.old }

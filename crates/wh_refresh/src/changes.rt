@@ -1,5 +1,6 @@
 //! What changes of its sources make of the rows of a dynamic table.
-ghost use Rattle.std.specs.Prelude.{◌≡◌, ◌≤◌, ◌++◌, [], ℕ, List, map, true, Some, Contains, IfOk, OnOk};
+ghost use Rattle.std.specs.Prelude.{◌≡◌, ◌≤◌, ◌++◌, [], ℕ, List, map, true, Some};
+ghost use Rattle.std.specs.Prelude.{Contains, IfOk, OnOk};
 ghost use Rattle.std.specs.FinMap.{values};
 ghost use Rattle.wh_fetch.specs.Device.{Counts};
 ghost use Rattle.wh_meaning.specs.Bag as bags;
@@ -66,8 +67,8 @@ pub(crate) fn change_of_rows<F: Fetch>(
         (dynamic_of dynamic.now)) found) }
     ensures sound { AllShownBy (F.contents fetch.old) (filed_at_objects objects.now)
         → F.damage fetch.new ≡ F.damage fetch.old }
-    ensures asks { linear (query_bound (objects_in objects.now) (dynamic_of dynamic.now).query).query
-        ≡ true → OnOk result (AsksOfChange (IsFiledIn objects.now (ids_of before.now))
+    ensures asks { linear
+        (query_bound (objects_in objects.now) (dynamic_of dynamic.now).query).query ≡ true → OnOk result (AsksOfChange (IsFiledIn objects.now (ids_of before.now))
         objects.now moment (dynamic_of dynamic.now)
         (F.asked fetch.old) (F.asked fetch.new)) }
     ensures same { F.contents fetch.new ≡ F.contents fetch.old }

@@ -187,8 +187,8 @@ fn rebased_by_change<F: Fetch>(
     ensures sound { AllShownBy (F.contents fetch.old) (filed_at_objects objects.now)
         → AllShownBy (F.contents fetch.old) (filed_of table.now)
         → F.damage fetch.new ≡ F.damage fetch.old }
-    ensures asks { linear (query_bound (objects_in objects.now) (dynamic_of dynamic.now).query).query
-        ≡ true → OnOk result
+    ensures asks { linear
+        (query_bound (objects_in objects.now) (dynamic_of dynamic.now).query).query ≡ true → OnOk result
         (AsksOfChange (Besides objects.now before.now (filed_of table.now))
         objects.now moment (dynamic_of dynamic.now)
         (F.asked fetch.old) (F.asked fetch.new)) }

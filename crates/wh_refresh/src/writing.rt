@@ -183,7 +183,8 @@ fn add_groups(
     groups: Option<GroupsChange>,
 ) -> Result<(), AllocError>
     ensures written { OnOk result (map change_of changes.new.items
-        ≡ map change_of changes.old.items ++ groups_written id (option_map groups_change_of groups)) }
+        ≡ map change_of changes.old.items
+        ++ groups_written id (option_map groups_change_of groups)) }
     ensures understood { OnOk result (StaysUnderstood (map change_of changes.old.items)
         (map change_of changes.new.items)) }
 {

@@ -52,7 +52,8 @@ pub record Carries {D K : Type 0} {disk : disks.Ghosts D} (k : sinks.Ghosts K) (
     (event : Event) (out out_new : K) (count : ℕ) : Type 0 where
   pub room : is_beyond (limit_of old.journal) (reach_of old).end (made_at (reach_of old) event) ≡ false
   pub reach : reach_of new ≡ reach_after (reach_of old) event
-  pub adds : Adds (disk.bytes old.fetch.disk) (disk.bytes new.fetch.disk) (option_to_list (made_at (reach_of old) event))
+  pub adds : Adds (disk.bytes old.fetch.disk) (disk.bytes new.fetch.disk)
+      (option_to_list (made_at (reach_of old) event))
   pub written : Writes (print (step (machine_of old) event).1) (k.held out) (k.held out_new)
   pub refused : count ≡ refusals_of (machine_of old) event
 

@@ -4,7 +4,8 @@
 --     TakesSoFar     so by the turns so far
 --     TakesTurn      by one turn
 --     TakesFor       of a run: one for each of its events, and at a stop no more than that
-use Rattle.std.specs.Prelude.{◌≡◌, ℕ, zero, suc, ◌+◌, ◌≤◌, Bool, true, false, List, [], length, Option, Some, None, option_map}
+use Rattle.std.specs.Prelude.{◌≡◌, ℕ, zero, suc, ◌+◌, ◌≤◌, Bool, true, false, List, [], length}
+use Rattle.std.specs.Prelude.{Option, Some, None, option_map}
 use Rattle.std.specs.Prelude.{Result, Ok, Err}
 use Rattle.wh_machine.specs.Step.{Event}
 use Rattle.wh_world.specs.Readings.{readings_after}

@@ -8,7 +8,8 @@ fn a_refresh_writes_the_groups_that_it_changes_and_no_others(rt: HostRuntime) {
     // A row of group 1 comes and goes again.
     const SCRIPT: &[u8] = b"CREATE TABLE T(K NUMBER, V NUMBER);
 INSERT INTO T VALUES (1, 10), (2, 20), (3, 30);
-CREATE DYNAMIC TABLE D TARGET_LAG = '1 hour' AS SELECT K, COUNT(*) AS N, SUM(V) AS S FROM T GROUP BY K;
+CREATE DYNAMIC TABLE D TARGET_LAG = '1 hour'
+AS SELECT K, COUNT(*) AS N, SUM(V) AS S FROM T GROUP BY K;
 INSERT INTO T VALUES (1, 5), (2, 2), (4, 40);
 DELETE FROM T WHERE V = 5;
 DELETE FROM T WHERE K = 3;

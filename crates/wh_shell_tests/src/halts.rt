@@ -10,11 +10,37 @@ use wh_text::print_reply;
 use wh_value::Bytes;
 use wh_world::MemDisk;
 
-// The warehouse of a disk.
-fn opened(rt: &(impl Abort + Threads + Sync), alloc: Global, disk: MemDisk) -> Warehouse<MemDisk> {
+/// The warehouse of a disk.
+pub(crate) fn opened(
+    rt: &(impl Abort + Threads + Sync),
+    alloc: Global,
+    disk: MemDisk,
+) -> Warehouse<MemDisk> {
     Warehouse::open(rt, alloc, disk, 1, 1 << 20)
         .map_err(|_| "not opened")
         .expect(rt, "a warehouse")
+}
+
+/// What an event is answered.
+pub(crate) fn event_answered(
+    rt: &(impl Abort + Threads + Sync),
+    alloc: Global,
+    warehouse: &mut Warehouse<MemDisk>,
+    event: &Event,
+) -> Result<Bytes, Halt> {
+    let reply = warehouse.carry_out(rt, event)?;
+    let mut lines = Bytes::new(alloc);
+    print_reply(alloc, reply, &mut lines).expect(rt, "memory");
+    Ok(lines)
+}
+
+/// A command of a session.
+pub(crate) fn command(rt: &impl Abort, alloc: Global, text: &[u8]) -> Event {
+    Event::Command {
+        reading: 0,
+        session: 1,
+        text: Bytes::from_slice(alloc, text).expect(rt, "memory"),
+    }
 }
 
 // What a command is answered.
@@ -24,15 +50,7 @@ fn answered(
     warehouse: &mut Warehouse<MemDisk>,
     text: &[u8],
 ) -> Result<Bytes, Halt> {
-    let event = Event::Command {
-        reading: 0,
-        session: 1,
-        text: Bytes::from_slice(alloc, text).expect(rt, "memory"),
-    };
-    let reply = warehouse.carry_out(rt, &event)?;
-    let mut lines = Bytes::new(alloc);
-    print_reply(alloc, reply, &mut lines).expect(rt, "memory");
-    Ok(lines)
+    event_answered(rt, alloc, warehouse, &command(rt, alloc, text))
 }
 
 fn assert_answer(
@@ -113,7 +131,8 @@ pub(crate) fn assert_asked(
     }
 }
 
-fn names(rt: &impl Abort, alloc: Global, asked: &[(u32, u64)]) -> Vec<PartId> {
+/// Partitions by object and number.
+pub(crate) fn names(rt: &impl Abort, alloc: Global, asked: &[(u32, u64)]) -> Vec<PartId> {
     let mut wanted = Vec::new(alloc);
     for (object, number) in asked {
         let part = PartId {

@@ -6,6 +6,8 @@ mod groups;
 #[cfg(test)]
 mod halts;
 #[cfg(test)]
+mod moved;
+#[cfg(test)]
 mod running;
 #[cfg(test)]
 mod runs;

@@ -16,8 +16,8 @@ pub(crate) struct Held {
     pub(crate) listed: &'static [&'static [u8]],
 }
 
-/// A script each of whose commits is answered by a line that begins with `C`: `CREATED`, `COMMITTED`
-/// or the name of a table that is refreshed.
+/// A script each of whose commits is answered by a line that begins with `C`: `CREATED`,
+/// `COMMITTED` or the name of a table that is refreshed.
 #[derive(Clone, Copy)]
 struct Commits {
     script: &'static [u8],
@@ -141,7 +141,8 @@ COMMIT;
 /// groups that the file has.
 const GROUPS: Commits = Commits {
     script: b"CREATE TABLE T(K NUMBER, V NUMBER);
-CREATE DYNAMIC TABLE COUNTS TARGET_LAG = '1 hour' INITIALIZE = ON_SCHEDULE AS SELECT K, COUNT(*) AS N, SUM(V) AS S FROM T GROUP BY K;
+CREATE DYNAMIC TABLE COUNTS TARGET_LAG = '1 hour' INITIALIZE = ON_SCHEDULE
+AS SELECT K, COUNT(*) AS N, SUM(V) AS S FROM T GROUP BY K;
 BEGIN;
 INSERT INTO T VALUES (1, 10), (2, 20), (2, 22);
 COMMIT;

@@ -1,5 +1,6 @@
 //! The partitions of a version, as they stand in the file. No row of them is read.
-ghost use Rattle.std.specs.Prelude.{◌≡◌, ◌&&◌, ◌++◌, ◌∷◌, [], List, not, filter, Contains, OnOk, IfOk};
+ghost use Rattle.std.specs.Prelude.{◌≡◌, ◌&&◌, ◌++◌, ◌∷◌, [], List, not, filter};
+ghost use Rattle.std.specs.Prelude.{Contains, OnOk, IfOk};
 ghost use Rattle.std.specs.List.{AllByRecursion};
 ghost use Rattle.wh_filed.specs.Filed.{Filed, filed_at, partitions_at};
 ghost use Rattle.wh_state.specs.Edits.{without, is_among};

@@ -23,7 +23,7 @@ returns-in-Ok-clause-changed c =
 pub returns-in-Ok-clause-back : goal.returns-in-Ok-clause-back
 returns-in-Ok-clause-back c =
     put_back c.in-Some.ensures.found c.index_mut-object.ensures.value
-    c.set_groups.new.self (object_regrouped c.in-Ok.was.items) c.in-Ok.ensures.back
+    c.set_groups.new.self (object_regrouped c.in-Ok.was) c.in-Ok.ensures.back
 
 pub returns-in-Err-clause-not_applicable : goal.returns-in-Err-clause-not_applicable
 returns-in-Err-clause-not_applicable c = λ why fits.

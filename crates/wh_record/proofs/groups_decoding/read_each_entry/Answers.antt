@@ -6,7 +6,7 @@ use Rattle.wh_record.proofs.groups_decoding.read_each_entry.Goals as goal
 
 pub returns-in_err-entry : goal.returns-in_err-entry
 returns-in_err-entry c =
-    let p = err_from_is_err_and c.from_residual.result c.from_residual.ensures.1 in
+    let p = err_from_is_err_and c.from_residual-in_err-entry.result c.from_residual-in_err-entry.ensures.1 in
     let reader = entry_at c.args.keys c.args.calls in
     rw (p.1, p.2) (ends reader c.in_err-entry.field-0.0 c.loop.entries.items c.args.count c.loop.counter
     c.loop.rest.now (items_at reader c.args.count c.args.bytes.now) c.loop-test.true c.in_err-entry.ensures

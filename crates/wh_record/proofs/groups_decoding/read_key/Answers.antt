@@ -7,7 +7,7 @@ use Rattle.wh_record.proofs.groups_decoding.read_key.Goals as goal
 
 pub returns-in_err-value : goal.returns-in_err-value
 returns-in_err-value c =
-    let p = err_from_is_err_and c.from_residual.result c.from_residual.ensures.1 in
+    let p = err_from_is_err_and c.from_residual-in_err-value.result c.from_residual-in_err-value.ensures.1 in
     rw (p.1, p.2) (ends value_at c.in_err-value.field-0.0 c.loop.key c.args.keys c.loop.counter
     c.loop.rest.now (items_at value_at c.args.keys c.args.bytes.now) c.loop-test.true c.in_err-value.ensures
     c.loop.invariant)

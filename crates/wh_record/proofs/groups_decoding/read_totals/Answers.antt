@@ -6,7 +6,7 @@ use Rattle.wh_record.proofs.groups_decoding.read_totals.Goals as goal
 
 pub returns-in_err-total : goal.returns-in_err-total
 returns-in_err-total c =
-    let p = err_from_is_err_and c.from_residual.result c.from_residual.ensures.1 in
+    let p = err_from_is_err_and c.from_residual-in_err-total.result c.from_residual-in_err-total.ensures.1 in
     rw (p.1, p.2) (ends total_at c.in_err-total.field-0.0 c.loop.totals.items c.args.calls c.loop.counter
     c.loop.rest.now (items_at total_at c.args.calls c.args.bytes.now) c.loop-test.true c.in_err-total.ensures
     c.loop.invariant)

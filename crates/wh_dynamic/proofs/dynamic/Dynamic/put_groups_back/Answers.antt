@@ -1,7 +1,7 @@
 use Rattle.std.proofs.Common.{◌≡◌, ◌∙◌, sym, ap}
 use Rattle.std.specs.Option.{option_map_or}
 use Rattle.std.specs.FinMap.{empty}
-use Rattle.wh_group.specs.Slots.{put_slots}
+use Rattle.wh_group.specs.Slots.{put_before}
 use Rattle.wh_dynamic.specs.View.{slots_in, kept_slots}
 use Rattle.wh_dynamic.proofs.NoSlots.{none_put}
 use Rattle.wh_dynamic.proofs.dynamic.Dynamic.put_groups_back.Goals as goal
@@ -9,4 +9,4 @@ use Rattle.wh_dynamic.proofs.dynamic.Dynamic.put_groups_back.Goals as goal
 pub returns-in_default-clause-slots : goal.returns-in_default-clause-slots
 returns-in_default-clause-slots c =
     let none : slots_in c.args.self.now ≡ empty = ap (λ kept. option_map_or kept_slots kept empty) c.in_default.is in
-    none ∙ sym (none_put c.args.was.items) ∙ ap (put_slots c.args.was.items) (sym none)
+    none ∙ sym (none_put c.args.was) ∙ ap (put_before c.args.was) (sym none)

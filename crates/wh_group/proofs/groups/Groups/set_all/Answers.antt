@@ -9,9 +9,5 @@ use Rattle.wh_group.proofs.groups.Groups.set_all.Goals as goal
 pub returns-then-have_groups-clause-ok : goal.returns-then-have_groups-clause-ok
 returns-then-have_groups-clause-ok c =
     let none = nil_from_length c.args.self.now.map.entries (search rules) in
-    c.in_ok-begun.ensures.ok
+    c.in_ok-self.ensures
     ∙ ap (set_all c.args.entries.items) (sym (ap (λ es. groups_of_slots (from_entries es)) none ∙ kept-none))
-
-pub returns-in_default-clause-err : goal.returns-in_default-clause-err
-returns-in_default-clause-err c =
-    c.put_back_all.ensures ∙ c.in_default.ensures.was ∙ sym c.loop-entry.invariant.back

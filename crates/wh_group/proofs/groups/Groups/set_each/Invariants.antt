@@ -2,7 +2,7 @@ use Rattle.std.proofs.Common.{◌≡◌, length}
 use Rattle.std.specs.Vec.Iter.{into_iter_items, into_iter_len}
 use Rattle.wh_maintenance.specs.Entries.{set_all}
 use Rattle.wh_group.specs.Slots.{slots_of, kept_groups, put_slots}
-use Rattle.wh_group.proofs.groups.Groups.set_all.Given as goal
+use Rattle.wh_group.proofs.groups.Groups.set_each.Given as goal
 
 abbrev pub invariant-loop-entry : goal.invariant-loop-entry
 invariant-loop-entry l = record {

@@ -2,7 +2,7 @@ use Rattle.std.proofs.Common.{◌∙◌, ap, sym}
 use Rattle.std.proofs.lemmas.List.{drop_all}
 use Rattle.wh_group.specs.Slots.{slots_of, groups_of_slots, settle_slots}
 use Rattle.wh_group.proofs.SlotLaws.{kept-settled_all}
-use Rattle.wh_group.proofs.groups.Groups.settle_all.Goals as goal
+use Rattle.wh_group.proofs.groups.Groups.settle_each.Goals as goal
 
 pub returns-clause-groups : goal.returns-clause-groups
 returns-clause-groups c =

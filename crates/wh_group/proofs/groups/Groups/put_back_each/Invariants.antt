@@ -1,6 +1,6 @@
 use Rattle.std.proofs.Common.{◌≡◌}
 use Rattle.wh_group.specs.Slots.{slots_of, put_slots}
-use Rattle.wh_group.proofs.groups.Groups.put_back_all.Given as goal
+use Rattle.wh_group.proofs.groups.Groups.put_back_each.Given as goal
 
 abbrev pub invariant-loop-entry : goal.invariant-loop-entry
 invariant-loop-entry l =

@@ -1,7 +1,7 @@
 use Rattle.std.proofs.Common.{◌∙◌, ap, sym}
 use Rattle.wh_group.specs.Slots.{slots_of, put_slots}
 use Rattle.wh_group.proofs.SlotLaws.{put_slots-push}
-use Rattle.wh_group.proofs.groups.Groups.put_back_all.Goals as goal
+use Rattle.wh_group.proofs.groups.Groups.put_back_each.Goals as goal
 
 pub loop-entry-preserved : goal.loop-entry-preserved
 loop-entry-preserved c =

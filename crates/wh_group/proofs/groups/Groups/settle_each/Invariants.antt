@@ -1,6 +1,6 @@
 use Rattle.std.proofs.Common.{◌≡◌, drop}
 use Rattle.wh_group.specs.Slots.{slots_of, settle_slots}
-use Rattle.wh_group.proofs.groups.Groups.settle_all.Given as goal
+use Rattle.wh_group.proofs.groups.Groups.settle_each.Given as goal
 
 abbrev pub invariant-loop-entry : goal.invariant-loop-entry
 invariant-loop-entry l =
