@@ -17,7 +17,7 @@ totals_from calls [] = Some (begun calls)
 totals_from calls (row ∷ rows) = of_one (tallied calls row) (totals_from calls rows)
 
 -- what one call adds up over rows
-abbrev total_from : Call → List Row → Option Total
+abbrev pub total_from : Call → List Row → Option Total
 total_from call rows = fold_list (λ row t. with_argument (argument_of call row) t) (Some nothing) rows
 
 total_of-bag_of : (e : Scalar) (rows : List Row) → total_of e (bag_of rows) ≡ total_from (Sum e) rows
@@ -52,14 +52,14 @@ tallied-both call calls row None ts =
 tallied-both call calls row (Some t) None = sym (nothing_beside before _)
 tallied-both call calls row (Some t) (Some ts) = refl
 
-totals_from-both : (call : Call) (calls : List Call) (rows : List Row)
+pub totals_from-both : (call : Call) (calls : List Call) (rows : List Row)
     → totals_from (call ∷ calls) rows ≡ of_two before (total_from call rows) (totals_from calls rows)
 totals_from-both call calls [] = refl
 totals_from-both call calls (row ∷ rows) =
     ap (of_one (tallied (call ∷ calls) row)) (totals_from-both call calls rows)
     ∙ tallied-both call calls row (total_from call rows) (totals_from calls rows)
 
-totals_from-none : (rows : List Row) → totals_from [] rows ≡ Some []
+pub totals_from-none : (rows : List Row) → totals_from [] rows ≡ Some []
 totals_from-none [] = refl
 totals_from-none (row ∷ rows) = ap (of_one (tallied [] row)) (totals_from-none rows)
 

@@ -1,4 +1,7 @@
 -- What the walk over the rows computes is what a Group means.
+--     step_of               what the walk over one row more tells of its parts
+--     own_totals            the totals at a key are those of the rows that have it
+--     keyed_rows            the keys of the groups are those of the rows
 --     grouped-listed        where it ends, the rows of its groups are those that are meant
 --     grouped-undefined     where it stops, none are meant
 use Rattle.std.specs.Prelude.{◌≡◌, ℕ, Bool, true, false, cond, ◌||◌, ◌⊎◌, List, [], ◌∷◌, ◌++◌, map, Option}
@@ -34,17 +37,17 @@ mapped : {A B : Type 0} (f : A → B) (o : Option A) (y : B) → option_map f o 
 mapped f None y e = cc
 mapped f (Some x) y e = (x, refl, cc)
 
-record Step (calls : List Call) (row : Row) (key_found : Option Row) (found : Option Groups) (groups : Groups)
+pub record Step (calls : List Call) (row : Row) (key_found : Option Row) (found : Option Groups) (groups : Groups)
     : Type 0 where
-  key : Row
-  before : Groups
-  totals : List Total
-  key_is : key_found ≡ Some key
-  before_is : found ≡ Some before
-  totals_is : tallied calls row (totals_at calls before key) ≡ Some totals
-  groups_is : groups ≡ insert before key totals
+  pub key : Row
+  pub before : Groups
+  pub totals : List Total
+  pub key_is : key_found ≡ Some key
+  pub before_is : found ≡ Some before
+  pub totals_is : tallied calls row (totals_at calls before key) ≡ Some totals
+  pub groups_is : groups ≡ insert before key totals
 
-step_of : (calls : List Call) (row : Row) (k : Option Row) (g : Option Groups) (groups : Groups)
+pub step_of : (calls : List Call) (row : Row) (k : Option Row) (g : Option Groups) (groups : Groups)
     → of_two (noted calls row) k g ≡ Some groups
     → Step calls row k g groups
 step_of calls row None g groups e = cc
@@ -84,7 +87,7 @@ begun_at [] calls q =
     ]
 begun_at (e ∷ es) calls q = ap (λ o. unwrap_or o (begun calls)) (get-empty row_cmp q)
 
-own_totals : (by : List Scalar) (calls : List Call) (rows : List Row) (groups : Groups)
+pub own_totals : (by : List Scalar) (calls : List Call) (rows : List Row) (groups : Groups)
     → groups_of by calls rows ≡ Some groups → (q : Row)
     → totals_from calls (rows_with by q rows) ≡ Some (totals_at calls groups q)
 own_totals by calls [] groups e q =
@@ -123,7 +126,7 @@ keys_more [] row key totals groups keyed key_is same =
     ap (λ k. keys (insert groups k totals)) (sym none) ∙ keys-insert_put groups [] totals ∙ ap (put_key []) same
 keys_more (e ∷ es) row key totals groups keyed key_is same = keys-insert groups keyed key totals (count keyed key) same
 
-keyed_rows : (by : List Scalar) (calls : List Call) (rows : List Row) (groups : Groups)
+pub keyed_rows : (by : List Scalar) (calls : List Call) (rows : List Row) (groups : Groups)
     → groups_of by calls rows ≡ Some groups
     → (keyed : Bag) × (projected by (bag_of rows) ≡ Some keyed) × (keys groups ≡ distinct by keyed)
 keyed_rows by calls [] groups e =

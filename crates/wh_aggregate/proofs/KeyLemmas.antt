@@ -2,8 +2,9 @@
 --     keys-insert_put       the keys of a map with a key more
 --     keys-empty_none       the empty map has none
 --     keys-insert           the keys of a map with a key more are those of any map with the same keys
+--     find_below            entries above a key have nothing at it
 --     entries_found         each entry of a map is what the map has at its key
-use Rattle.std.specs.Prelude.{◌≡◌, true, false, cond, T, List, [], ◌∷◌, map, Some}
+use Rattle.std.specs.Prelude.{◌≡◌, true, false, cond, T, List, [], ◌∷◌, map, Some, None}
 use Rattle.std.proofs.Common.{refl, sym, ap, ◌∙◌}
 use Rattle.std.specs.List.{AllByRecursion}
 use Rattle.std.proofs.lemmas.List.{nil_from_length}
@@ -62,7 +63,18 @@ apart Less h = refl
 apart Equal h = absurd h
 apart Greater h = absurd h
 
+less_apart : (r : Ordering) → T (is_lt r) → is_eq r ≡ false
+less_apart Less h = refl
+less_apart Equal h = absurd h
+less_apart Greater h = absurd h
+
 module _ {X : Type 0} where
+  pub find_below : (q : Row) (es : List (Row × X)) → T (below_all row_cmp q es) → find row_cmp q es ≡ None
+  find_below q [] h = refl
+  find_below q (e ∷ es) h =
+      ap (λ b. cond b (Some e.1) (find row_cmp q es)) (less_apart (row_cmp q e.0) (both_hold _ _ h).0)
+      ∙ find_below q es (both_hold _ _ h).1
+
   found_later : (e : Row × X) (rest es : List (Row × X)) → T (below_all row_cmp e.0 es)
       → AllByRecursion (λ f. find row_cmp f.0 rest ≡ Some f.1) es
       → AllByRecursion (λ f. find row_cmp f.0 (e ∷ rest) ≡ Some f.1) es

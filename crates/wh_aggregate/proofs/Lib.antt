@@ -4,3 +4,4 @@ pub mod KeyLemmas
 pub mod GroupLemmas
 pub mod LoopLemmas
 pub mod MapLemmas
+pub mod JoinLemmas

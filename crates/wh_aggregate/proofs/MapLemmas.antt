@@ -1,7 +1,8 @@
--- The groups of the code's tree, of no rows and with a row more.
+-- The groups of the code's tree, of no rows, with a row more and with a group more.
 --     one_group               the tree of no rows without keys
 --     row_left, row_noted     the tree with the row, and the groups with it
 --     not_noted               a row that can't be noted
+--     group_joined            the tree with totals more at a key, and the groups with them
 use Rattle.std.specs.Prelude.{◌≡◌, cond, length, List, [], ◌∷◌, Some, None, option_map, unwrap_or, Result, Ok, Err}
 use Rattle.std.proofs.Common.{arith, refl, sym, ap, ◌∙◌}
 use Rattle.std.specs.Ordering.{is_eq}
@@ -19,7 +20,7 @@ use Rattle.wh_scalar.specs.declared.scalar.Scalar.{Scalar}
 use Rattle.wh_algebra.specs.View.{scalars_of}
 use Rattle.wh_aggregate.specs.Given.{Leaves}
 use Rattle.wh_aggregate.specs.Tally.{begun, tallied}
-use Rattle.wh_aggregate.specs.Groups.{Groups, noted, AreOver}
+use Rattle.wh_aggregate.specs.Groups.{Groups, noted, AreOver, with_totals, with_group}
 use Rattle.wh_aggregate.proofs.FaultLemmas.{still}
 
 pub one_group : (by : List Scalar) (calls : List meaning.Call) (n : List (Row × List Total)) (key : Row)
@@ -57,3 +58,13 @@ module _ (calls : List meaning.Call) (row key : Row) (m n : List (Row × List To
 
   pub not_noted : tallied calls row old ≡ None → noted calls row key groups ≡ None
   not_noted none = noted_as ∙ ap (option_map (insert (from_entries m) key)) none
+
+pub group_joined : (key : Row) (m n : List (Row × List Total)) (groups : Groups) → groups ≡ from_entries m
+    → (more new : List Total) → new ≡ with_totals (lookup (is_at (row_cmp key)) m) more
+    → ((q : Row)
+    → lookup (is_at (row_cmp q)) n ≡ cond (is_eq (row_cmp key q)) (Some new) (lookup (is_at (row_cmp q)) m))
+    → from_entries n ≡ with_group key more groups
+group_joined key m n groups groups_is more new new_is has =
+    map_after row_total row-IsAntisymmetric m n key new has
+    ∙ ap (insert (from_entries m) key) (new_is ∙ ap (λ o. with_totals o more) (sym (gotten row_total m key)))
+    ∙ ap (with_group key more) (sym groups_is)

@@ -4,6 +4,8 @@
 --     added             groups with rows more; None where a key or an argument has no value
 --     AreOver           groups are those of the rows of a bag
 --     TakesIn           what adding rows answers and leaves: where it stops, no more rows give the calls a value
+--     with_totals       the totals at a key, and others taken together with them; the others alone where none are
+--     with_group        groups with totals more at a key
 --     listed            the rows of groups: each key, and then its answers
 use Rattle.std.specs.Prelude.{◌≡◌, List, [], ◌∷◌, ◌++◌, Option, Some, None, option_map, unwrap_or, Result, Ok, Err}
 use Rattle.std.specs.FinMap.{FinMap, empty, get, insert}
@@ -13,7 +15,7 @@ use Rattle.wh_meaning.specs.Bag.{Bag, bag_of, plus}
 use Rattle.wh_meaning.specs.Query.{Call, Total, values_on, grouped}
 use Rattle.wh_scalar.specs.declared.fault.EvalFault.{EvalFault}
 use Rattle.wh_scalar.specs.declared.fault.EvalFault.TheVariants.{NumberOutOfRange, OutOfMemory}
-use Rattle.wh_aggregate.specs.Tally.{begun, tallied, answers}
+use Rattle.wh_aggregate.specs.Tally.{begun, tallied, together, answers}
 
 abbrev pub Groups : Type 0
 Groups = FinMap row_cmp (List Total)
@@ -45,6 +47,13 @@ TakesIn by calls rows before (Ok done) new = AreOver by calls (plus (bag_of rows
 TakesIn by calls rows before (Err NumberOutOfRange) new = (more : List Row)
     → grouped by calls (plus (bag_of more) (plus (bag_of rows) before)) ≡ None
 TakesIn by calls rows before (Err OutOfMemory) new = Unit {0}
+
+abbrev pub with_totals : Option (List Total) → List Total → List Total
+with_totals None more = more
+with_totals (Some totals) more = together totals more
+
+abbrev pub with_group : Row → List Total → Groups → Groups
+with_group key more groups = insert groups key (with_totals (get groups key) more)
 
 abbrev pub group_row : List Call → Row → List Total → Option Row
 group_row calls key totals = option_map (λ values. key ++ values) (answers calls totals)

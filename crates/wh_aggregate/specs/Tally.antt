@@ -2,8 +2,10 @@
 --     argument_of     the value that a row gives to a call; to COUNT(*) one that isn't NULL
 --     begun           the totals of calls before the first row
 --     tallied         the totals with a row more
+--     both_totals     two totals taken together
+--     together        lists of totals taken together, each total with the one at its place
 --     answers         the values of calls; None where a number has more than 18 digits
-use Rattle.std.specs.Prelude.{List, [], ◌∷◌, ℤ, ℕ, pos, ◌≡◌, true, Option, Some, refl}
+use Rattle.std.specs.Prelude.{List, [], ◌∷◌, ℤ, ℕ, pos, ◌+◌, ◌+ℤ◌, ◌≡◌, true, Option, Some, refl}
 use Rattle.std.specs.Coded.{Coded, code_by, coded×, coded_ℤ, coded_ℕ}
 use Rattle.wh_value.specs.Value.{Value, Truth, Row}
 use Rattle.wh_meaning.specs.Scalar.{val, of_two}
@@ -30,6 +32,15 @@ tallied [] row ts = Some ts
 tallied (call ∷ calls) row [] = Some []
 tallied (call ∷ calls) row (t ∷ ts) =
     of_two before (with_argument (argument_of call row) (Some t)) (tallied calls row ts)
+
+abbrev pub both_totals : Total → Total → Total
+both_totals a b = record { sum = a.sum +ℤ b.sum; values = a.values + b.values }
+
+-- as far as both go; the first list's rest stays
+abbrev pub together : List Total → List Total → List Total
+together [] us = []
+together (t ∷ ts) [] = t ∷ ts
+together (t ∷ ts) (u ∷ us) = both_totals t u ∷ together ts us
 
 abbrev pub answer : Call → Total → Option Value
 answer (Sum e) t = sum_value t.sum t.values

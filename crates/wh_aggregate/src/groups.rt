@@ -29,14 +29,15 @@ impl Model for Groups {
 }
 
 impl Groups {
-    ghost use Rattle.std.specs.Prelude.{List, IfOk};
+    ghost use Rattle.std.specs.Prelude.{◌≡◌, List, IfOk, OnOk};
     ghost use Rattle.wh_meaning.specs.Scalar as scalars;
-    ghost use Rattle.wh_meaning.specs.Bag.{Bag, no_rows};
+    ghost use Rattle.wh_meaning.specs.Bag.{Bag, no_rows, plus};
+    ghost use Rattle.wh_meaning.specs.Query as queries;
     ghost use Rattle.wh_meaning.specs.Query.{grouped};
     ghost use Rattle.wh_algebra.specs.View.{calls_of, scalars_of};
     ghost use Rattle.wh_algebra.specs.Tuple.{rows_in};
     ghost use Rattle.wh_aggregate.specs.Given.{Leaves, GivesRows};
-    ghost use Rattle.wh_aggregate.specs.Groups.{AreOver, TakesIn, noted};
+    ghost use Rattle.wh_aggregate.specs.Groups.{AreOver, TakesIn, noted, with_group};
 
     /// Of no rows.
     pub fn new(alloc: Global, by: &[Scalar], calls: &[Call]) -> Result<Groups, AllocError>
@@ -87,6 +88,32 @@ impl Groups {
         tallies.add_row(alloc, calls, row)?;
         let Ok(_) = self.map.insert(key, tallies) else {
             return Err(EvalFault::OutOfMemory);
+        };
+        Ok(())
+    }
+
+    /// Adds groups of other rows, each to the group of its key.
+    pub fn join(&mut self, other: Groups) -> Result<(), AllocError>
+        ensures { OnOk result ((by : List scalars.Scalar) (calls : List queries.Call) (b c : Bag)
+            → AreOver by calls b self.old → AreOver by calls c other
+            → AreOver by calls (plus b c) self.new) }
+    {
+        let Groups { map } = other;
+        for (key, tallies) in map {
+            self.join_one(key, tallies)?;
+        }
+        Ok(())
+    }
+
+    // Adds a group of other rows.
+    fn join_one(&mut self, key: Row, tallies: Tallies) -> Result<(), AllocError>
+        ensures { OnOk result (self.new ≡ with_group key tallies self.old) }
+    {
+        if let Some(own) = self.map.get_mut(&key) {
+            return own.join(&tallies);
+        }
+        let Ok(_) = self.map.insert(key, tallies) else {
+            return Err(AllocError);
         };
         Ok(())
     }

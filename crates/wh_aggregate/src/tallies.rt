@@ -1,6 +1,7 @@
+ghost use Rattle.std.specs.Prelude.{◌≡◌, OnOk};
 ghost use Rattle.wh_algebra.specs.View.{calls_of};
 ghost use Rattle.wh_aggregate.specs.Given.{Leaves};
-ghost use Rattle.wh_aggregate.specs.Tally.{tallied};
+ghost use Rattle.wh_aggregate.specs.Tally.{tallied, together};
 
 use crate::tally::{Tally, argument};
 use std::alloc::{AllocError, Global};
@@ -29,10 +30,10 @@ impl Model for Tallies {
 }
 
 impl Tallies {
-    ghost use Rattle.std.specs.Prelude.{◌≡◌, IfOk};
+    ghost use Rattle.std.specs.Prelude.{◌≡◌, IfOk, OnOk};
     ghost use Rattle.wh_algebra.specs.View.{calls_of};
     ghost use Rattle.wh_aggregate.specs.Given.{Gives, Leaves};
-    ghost use Rattle.wh_aggregate.specs.Tally.{begun, tallied};
+    ghost use Rattle.wh_aggregate.specs.Tally.{begun, tallied, together};
     ghost use Rattle.wh_aggregate.specs.Groups.{group_row};
 
     pub(crate) fn new(alloc: Global, calls: &[Call]) -> Result<Tallies, AllocError>
@@ -54,6 +55,13 @@ impl Tallies {
         ensures { Leaves result self.new (tallied (calls_of calls.now) row.now self.old) }
     {
         add_row(alloc, calls, row, &mut self.tallies)
+    }
+
+    /// Adds what others have added up over other rows, for the same calls.
+    pub(crate) fn join(&mut self, other: &Tallies) -> Result<(), AllocError>
+        ensures { OnOk result (self.new ≡ together self.old other.now) }
+    {
+        join(&mut self.tallies, &other.tallies)
     }
 
     /// The key, and then what the calls answer.
@@ -79,4 +87,17 @@ fn add_row(alloc: Global, calls: &[Call], row: &Row, tallies: &mut [Tally]) -> R
     };
     tally.add(&argument(alloc, call, row)?)?;
     add_row(alloc, calls, row, tallies)
+}
+
+fn join(tallies: &mut [Tally], others: &[Tally]) -> Result<(), AllocError>
+    ensures { OnOk result (tallies.new ≡ together tallies.old others.now) }
+{
+    let Some((tally, tallies)) = tallies.split_first_mut() else {
+        return Ok(());
+    };
+    let Some((other, others)) = others.split_first() else {
+        return Ok(());
+    };
+    tally.join(other)?;
+    join(tallies, others)
 }

@@ -36,7 +36,7 @@ impl Tally {
     ghost use Rattle.wh_meaning.specs.Query.{with_number};
     ghost use Rattle.wh_algebra.specs.View.{call_of};
     ghost use Rattle.wh_scalar.specs.View.{Gives};
-    ghost use Rattle.wh_aggregate.specs.Tally.{nothing, answer};
+    ghost use Rattle.wh_aggregate.specs.Tally.{nothing, both_totals, answer};
 
     pub(crate) fn new() -> Tally
         ensures { result ≡ nothing }
@@ -56,6 +56,15 @@ impl Tally {
             self.sum = self.sum.checked_add(i128::from(*number)).ok_or(AllocError)?;
         }
         self.values = self.values.checked_add(1).ok_or(AllocError)?;
+        Ok(())
+    }
+
+    /// Adds what another has added up.
+    pub(crate) fn join(&mut self, other: &Tally) -> Result<(), AllocError>
+        ensures { OnOk result (self.new ≡ both_totals self.old other.now) }
+    {
+        self.sum = self.sum.checked_add(other.sum).ok_or(AllocError)?;
+        self.values = self.values.checked_add(other.values).ok_or(AllocError)?;
         Ok(())
     }
 

@@ -17,11 +17,13 @@ use crate::reading::{first_locked, sources_refusal, streams_among};
 use crate::settling::{alone, staged};
 use crate::sight::Sight;
 use std::alloc::Global;
+use std::thread::Threads;
 use wh_bound_change::BoundChange;
 use wh_catalog::StoredTable;
 use wh_dml::{Effect, EffectFault};
 use wh_fetch::{DiskFetch, FetchFault};
 use wh_reply::Refusal;
+use wh_workers::Workers;
 use wh_world::Disk;
 
 /// What INSERT, UPDATE, DELETE and MERGE come to that nothing is found wrong with: in a transaction
@@ -29,8 +31,8 @@ use wh_world::Disk;
 /// of the target, where a row counts, and moves the offsets of the streams that they read; there is
 /// no commit where there is neither.
 #[tactic(auto, using(wh_fetch::specs::DiskFetch::goes_on, wh_fetch::specs::DiskFetch::goes_none))]
-pub fn change_rows<D: Disk>(
-    alloc: Global,
+pub fn change_rows<R: Threads + Sync, D: Disk>(
+    workers: &Workers<'_, R>,
     sight: &Sight<'_>,
     bound: &BoundChange,
     fetch: &mut DiskFetch<D>,
@@ -46,20 +48,20 @@ pub fn change_rows<D: Disk>(
     ensures goes { GoesOn D.Disk fetch.old fetch.new }
     ensures counts { Counts (faults_of D.Disk fetch.old) (faults_of D.Disk fetch.new) result }
 {
-    if let Some(why) = sources_refusal(alloc, sight, bound.is_wide, &bound.sources)? {
+    if let Some(why) = sources_refusal(workers.alloc, sight, bound.is_wide, &bound.sources)? {
         return Ok(Decision::Refuse(why));
     }
-    let streams = streams_among(alloc, sight.catalog, &bound.sources)?;
+    let streams = streams_among(workers.alloc, sight.catalog, &bound.sources)?;
     if let Some(number) = first_locked(sight, bound.target, &streams) {
         return Ok(Decision::Refuse(Refusal::Locked(number)));
     }
-    change_free(alloc, sight, bound, streams, fetch)
+    change_free(workers, sight, bound, streams, fetch)
 }
 
 // What a change comes to that passes each test before its evaluation, and reads these streams.
 #[tactic(auto, using(wh_fetch::specs::DiskFetch::goes_on, wh_fetch::specs::DiskFetch::goes_none))]
-fn change_free<D: Disk>(
-    alloc: Global,
+fn change_free<R: Threads + Sync, D: Disk>(
+    workers: &Workers<'_, R>,
     sight: &Sight<'_>,
     bound: &BoundChange,
     streams: Vec<u32>,
@@ -81,8 +83,8 @@ fn change_free<D: Disk>(
     let Some(table) = sight.catalog.table(bound.target) else {
         return Ok(Decision::Refuse(Refusal::TypeMismatch));
     };
-    match effect_seen(alloc, sight, bound, fetch)? {
-        Ok(effect) => settle(alloc, sight, bound, streams, table, effect, fetch),
+    match effect_seen(workers, sight, bound, fetch)? {
+        Ok(effect) => settle(workers.alloc, sight, bound, streams, table, effect, fetch),
         Err(EffectFault::NumberOutOfRange) => Ok(Decision::Refuse(Refusal::NumberOutOfRange)),
         Err(EffectFault::AmbiguousMerge(row)) => {
             Ok(Decision::Refuse(Refusal::AmbiguousMerge(row)))

@@ -30,6 +30,7 @@ use crate::tables::{create_table, drop_table};
 use crate::tasks::create_task;
 use crate::transactions::{begin, commit, refused_in_transaction, rollback};
 use std::alloc::{AllocError, Global};
+use std::thread::Threads;
 use wh_ast::Statement;
 use wh_bind::BindFault;
 use wh_ddl_bind::{Bound, Names, bind};
@@ -37,12 +38,13 @@ use wh_fetch::{DiskFetch, FetchFault};
 use wh_reply::Refusal;
 use wh_stmt_parse::{ParseFault, parse};
 use wh_value::{Limit, SESSIONS};
+use wh_workers::Workers;
 use wh_world::Disk;
 
 /// What a command's text comes to in a session.
 #[tactic(auto, using(wh_fetch::specs::DiskFetch::goes_on, wh_fetch::specs::DiskFetch::goes_none))]
-pub fn decide_command<D: Disk>(
-    alloc: Global,
+pub fn decide_command<R: Threads + Sync, D: Disk>(
+    workers: &Workers<'_, R>,
     sight: &Sight<'_>,
     text: &[u8],
     fetch: &mut DiskFetch<D>,
@@ -66,9 +68,9 @@ pub fn decide_command<D: Disk>(
     if Limit::Statement.bound() < text.len() as u64 {
         return Ok(Decision::Refuse(Refusal::OverLimit(Limit::Statement)));
     }
-    match parse(alloc, text) {
+    match parse(workers.alloc, text) {
         Ok(statement) => {
-            let decision = decide_tree(alloc, sight, &statement, fetch);
+            let decision = decide_tree(workers, sight, &statement, fetch);
             drop(statement);
             decision
         }
@@ -79,8 +81,8 @@ pub fn decide_command<D: Disk>(
 
 // What a statement comes to, as a text spells it.
 #[tactic(auto, using(wh_fetch::specs::DiskFetch::goes_on, wh_fetch::specs::DiskFetch::goes_none))]
-fn decide_tree<D: Disk>(
-    alloc: Global,
+fn decide_tree<R: Threads + Sync, D: Disk>(
+    workers: &Workers<'_, R>,
     sight: &Sight<'_>,
     statement: &Statement,
     fetch: &mut DiskFetch<D>,
@@ -102,6 +104,7 @@ fn decide_tree<D: Disk>(
     ensures goes { GoesOn D.Disk fetch.old fetch.new }
     ensures counts { Counts (faults_of D.Disk fetch.old) (faults_of D.Disk fetch.new) result }
 {
+    let alloc = workers.alloc;
     if !is_session(sight.session) {
         return Ok(Decision::Refuse(Refusal::NoSuchSession(sight.session)));
     }
@@ -112,7 +115,7 @@ fn decide_tree<D: Disk>(
         roots: &roots,
     };
     match bind(alloc, &names, statement) {
-        Ok(bound) => decide_bound(alloc, sight, bound, fetch),
+        Ok(bound) => decide_bound(workers, sight, bound, fetch),
         Err(BindFault::Failing(failing)) => {
             let why = earlier_refusal(sight, statement).unwrap_or(refusal(failing));
             Ok(Decision::Refuse(why))
@@ -159,8 +162,8 @@ fn earlier_refusal(sight: &Sight<'_>, statement: &Statement) -> Option<Refusal>
 
 // What a statement comes to that nothing is found wrong with.
 #[tactic(auto, using(crate::proofs::AskLemmas::bound_unasked, crate::proofs::RefreshAskLaws::unbound_asks), unfolding(wh_machine::specs::Statements::carried_out))]
-fn decide_bound<D: Disk>(
-    alloc: Global,
+fn decide_bound<R: Threads + Sync, D: Disk>(
+    workers: &Workers<'_, R>,
     sight: &Sight<'_>,
     statement: Bound,
     fetch: &mut DiskFetch<D>,
@@ -184,13 +187,14 @@ fn decide_bound<D: Disk>(
     ensures goes { GoesOn D.Disk fetch.old fetch.new }
     ensures counts { Counts (faults_of D.Disk fetch.old) (faults_of D.Disk fetch.new) result }
 {
+    let alloc = workers.alloc;
     match statement {
         Bound::Commit => commit(alloc, sight, fetch),
-        Bound::Change(change) => change_rows(alloc, sight, change.get(), fetch),
-        Bound::Select(query) => select(alloc, sight, query.get(), fetch),
+        Bound::Change(change) => change_rows(workers, sight, change.get(), fetch),
+        Bound::Select(query) => select(workers, sight, query.get(), fetch),
         Bound::HasData(stream) => has_data(alloc, sight, stream, fetch),
-        Bound::CreateDynamicTable(table) => create_dynamic(alloc, sight, table.get(), fetch),
-        Bound::RefreshDynamicTable(id) => refresh_dynamic(alloc, sight, id, fetch),
+        Bound::CreateDynamicTable(table) => create_dynamic(workers, sight, table.get(), fetch),
+        Bound::RefreshDynamicTable(id) => refresh_dynamic(workers, sight, id, fetch),
         unread => {
             let decision = decide_unread(alloc, sight, unread)?;
             Ok(decision)

@@ -29,6 +29,7 @@ use crate::reading::name_of;
 use crate::sight::Sight;
 use crate::transactions::refused_in_transaction;
 use std::alloc::{AllocError, Global};
+use std::thread::Threads;
 use wh_ast::Lag;
 use wh_catalog::Catalog;
 use wh_dynamic::{DynamicState, upstream};
@@ -36,6 +37,7 @@ use wh_fetch::{DiskFetch, FetchFault};
 use wh_record::Change;
 use wh_refresh::{Asked, Refreshing, all_objects, refresh};
 use wh_reply::{Refusal, Reply};
+use wh_workers::Workers;
 use wh_world::Disk;
 
 // ---- states
@@ -199,8 +201,8 @@ fn is_same_state(old: DynamicState, new: DynamicState) -> bool
 // What ALTER DYNAMIC TABLE .. REFRESH comes to, of a dynamic table: it is brought to the stamp of
 // the statement.
 #[tactic(auto, using(wh_fetch::specs::DiskFetch::goes_on, wh_fetch::specs::DiskFetch::goes_none))]
-pub(crate) fn refresh_dynamic<D: Disk>(
-    alloc: Global,
+pub(crate) fn refresh_dynamic<R: Threads + Sync, D: Disk>(
+    workers: &Workers<'_, R>,
     sight: &Sight<'_>,
     id: u32,
     fetch: &mut DiskFetch<D>,
@@ -223,7 +225,7 @@ pub(crate) fn refresh_dynamic<D: Disk>(
     if let Some(why) = refused_in_transaction(sight) {
         return Ok(Decision::Refuse(why));
     }
-    let found = refreshing(alloc, sight, Asked::ByStatement, id, sight.stamp, fetch)?;
+    let found = refreshing(workers, sight, Asked::ByStatement, id, sight.stamp, fetch)?;
     Ok(refreshed(sight, found))
 }
 
@@ -246,8 +248,8 @@ fn refreshed(sight: &Sight<'_>, found: Refreshing) -> Decision
 
 // A refresh of a dynamic table of the catalog.
 #[tactic(auto, using(wh_fetch::specs::DiskFetch::goes_on, wh_fetch::specs::DiskFetch::goes_none))]
-fn refreshing<D: Disk>(
-    alloc: Global,
+fn refreshing<R: Threads + Sync, D: Disk>(
+    workers: &Workers<'_, R>,
     sight: &Sight<'_>,
     asked: Asked,
     id: u32,
@@ -269,15 +271,15 @@ fn refreshing<D: Disk>(
     ensures goes { GoesOn D.Disk fetch.old fetch.new }
     ensures counts { Counts (faults_of D.Disk fetch.old) (faults_of D.Disk fetch.new) result }
 {
-    let objects = all_objects(alloc, sight.catalog, None)?;
-    refresh(alloc, &objects, asked, id, moment, fetch)
+    let objects = all_objects(workers.alloc, sight.catalog, None)?;
+    refresh(workers, &objects, asked, id, moment, fetch)
 }
 
 /// What the refresh of a dynamic table that is due comes to. One that fails counts, and is tried
 /// for that moment no more.
 #[tactic(auto, using(wh_fetch::specs::DiskFetch::goes_on, wh_fetch::specs::DiskFetch::goes_none))]
-pub fn scheduled_refresh<D: Disk>(
-    alloc: Global,
+pub fn scheduled_refresh<R: Threads + Sync, D: Disk>(
+    workers: &Workers<'_, R>,
     sight: &Sight<'_>,
     id: u32,
     target: u64,
@@ -296,9 +298,9 @@ pub fn scheduled_refresh<D: Disk>(
     ensures goes { GoesOn D.Disk fetch.old fetch.new }
     ensures counts { Counts (faults_of D.Disk fetch.old) (faults_of D.Disk fetch.new) result }
 {
-    let found = refreshing(alloc, sight, Asked::BySchedule, id, target, fetch)?;
+    let found = refreshing(workers, sight, Asked::BySchedule, id, target, fetch)?;
     match found {
-        Refreshing::Fails(why) => Ok(failed(alloc, sight, id, target, why)?),
+        Refreshing::Fails(why) => Ok(failed(workers.alloc, sight, id, target, why)?),
         Refreshing::Brings(lines, changes) => {
             Ok(defined(sight, Reply::RefreshedTables(lines), changes))
         }

@@ -46,6 +46,7 @@ use crate::sight::Sight;
 use crate::tables::some_is_long;
 use sqlite_items::Boxed;
 use std::alloc::{AllocError, Global};
+use std::thread::Threads;
 use wh_algebra::incrementable;
 use wh_ast::{Initialize, RefreshMode};
 use wh_bind::copied_columns;
@@ -59,13 +60,14 @@ use wh_record::{Change, DynamicChange};
 use wh_refresh::{Asked, Refreshing, all_objects, refresh};
 use wh_reply::{Refreshed, Refusal, Reply};
 use wh_value::{Limit, Text};
+use wh_workers::Workers;
 use wh_world::Disk;
 
 // What CREATE DYNAMIC TABLE comes to, whose names are right: a new dynamic table, the last of the
 // catalog, and its first refresh where that isn't left to the schedule.
 #[tactic(auto, using(wh_fetch::specs::DiskFetch::goes_on, wh_fetch::specs::DiskFetch::goes_none))]
-pub(crate) fn create_dynamic<D: Disk>(
-    alloc: Global,
+pub(crate) fn create_dynamic<R: Threads + Sync, D: Disk>(
+    workers: &Workers<'_, R>,
     sight: &Sight<'_>,
     table: &NewDynamicTable,
     fetch: &mut DiskFetch<D>,
@@ -83,17 +85,17 @@ pub(crate) fn create_dynamic<D: Disk>(
     ensures goes { GoesOn D.Disk fetch.old fetch.new }
     ensures counts { Counts (faults_of D.Disk fetch.old) (faults_of D.Disk fetch.new) result }
 {
-    let wrong = dynamic_refusal(alloc, sight.catalog, table)?;
+    let wrong = dynamic_refusal(workers.alloc, sight.catalog, table)?;
     if let Some(why) = definition_refusal(sight, None, wrong) {
         return Ok(Decision::Refuse(why));
     }
-    new_dynamic(alloc, sight, table, fetch)
+    new_dynamic(workers, sight, table, fetch)
 }
 
 // A new dynamic table, of which nothing is beyond a limit.
 #[tactic(auto, using(wh_fetch::specs::DiskFetch::goes_on, wh_fetch::specs::DiskFetch::goes_none))]
-fn new_dynamic<D: Disk>(
-    alloc: Global,
+fn new_dynamic<R: Threads + Sync, D: Disk>(
+    workers: &Workers<'_, R>,
     sight: &Sight<'_>,
     table: &NewDynamicTable,
     fetch: &mut DiskFetch<D>,
@@ -112,6 +114,7 @@ fn new_dynamic<D: Disk>(
     ensures goes { GoesOn D.Disk fetch.old fetch.new }
     ensures counts { Counts (faults_of D.Disk fetch.old) (faults_of D.Disk fetch.new) result }
 {
+    let alloc = workers.alloc;
     let change = change(alloc, sight.catalog, table)?;
     match table.initialize {
         Initialize::OnSchedule => {
@@ -119,14 +122,14 @@ fn new_dynamic<D: Disk>(
             let more = Vec::new(alloc);
             Ok(created(alloc, sight, change, lines, more)?)
         }
-        Initialize::OnCreate => initialized(alloc, sight, table, change, fetch),
+        Initialize::OnCreate => initialized(workers, sight, table, change, fetch),
     }
 }
 
 // With its first refresh, to the statement's stamp.
 #[tactic(auto, using(wh_fetch::specs::DiskFetch::goes_on, wh_fetch::specs::DiskFetch::goes_none))]
-fn initialized<D: Disk>(
-    alloc: Global,
+fn initialized<R: Threads + Sync, D: Disk>(
+    workers: &Workers<'_, R>,
     sight: &Sight<'_>,
     table: &NewDynamicTable,
     change: DynamicChange,
@@ -148,18 +151,20 @@ fn initialized<D: Disk>(
     ensures goes { GoesOn D.Disk fetch.old fetch.new }
     ensures counts { Counts (faults_of D.Disk fetch.old) (faults_of D.Disk fetch.new) result }
 {
-    let made = made(alloc, sight, table)?;
-    let found = first_refresh(alloc, sight, &made, change.id, fetch)?;
+    let made = made(workers.alloc, sight, table)?;
+    let found = first_refresh(workers, sight, &made, change.id, fetch)?;
     match found {
         Refreshing::Fails(why) => Ok(Decision::Refuse(why)),
-        Refreshing::Brings(lines, changes) => { Ok(created(alloc, sight, change, lines, changes)?) }
+        Refreshing::Brings(lines, changes) => {
+            Ok(created(workers.alloc, sight, change, lines, changes)?)
+        }
     }
 }
 
 // Its first refresh, where it has that id.
 #[tactic(auto, using(wh_fetch::specs::DiskFetch::goes_on, wh_fetch::specs::DiskFetch::goes_none))]
-fn first_refresh<D: Disk>(
-    alloc: Global,
+fn first_refresh<R: Threads + Sync, D: Disk>(
+    workers: &Workers<'_, R>,
     sight: &Sight<'_>,
     made: &StoredObject,
     id: u32,
@@ -180,8 +185,15 @@ fn first_refresh<D: Disk>(
     ensures goes { GoesOn D.Disk fetch.old fetch.new }
     ensures counts { Counts (faults_of D.Disk fetch.old) (faults_of D.Disk fetch.new) result }
 {
-    let objects = all_objects(alloc, sight.catalog, Some(made))?;
-    refresh(alloc, &objects, Asked::ByStatement, id, sight.stamp, fetch)
+    let objects = all_objects(workers.alloc, sight.catalog, Some(made))?;
+    refresh(
+        workers,
+        &objects,
+        Asked::ByStatement,
+        id,
+        sight.stamp,
+        fetch,
+    )
 }
 
 // The commit of a new dynamic table, and what a first refresh writes.

@@ -18,18 +18,20 @@ ghost use Rattle.wh_decide.specs.Sources.{IsTarget};
 use crate::sight::Sight;
 use crate::sources::{sources_of, sources_seen};
 use std::alloc::Global;
+use std::thread::Threads;
 use wh_bound_change::{BoundChange, Modification};
 use wh_dml::{Effect, EffectFault, effect};
 use wh_exec::Source;
 use wh_fetch::{DiskFetch, FetchFault};
 use wh_txn::TableSeen;
+use wh_workers::Workers;
 use wh_world::Disk;
 
 // What a change does to the rows of its target, over what the session sees. The partitions that
 // were loaded for it are given back.
 #[tactic(auto, using(wh_fetch::specs::DiskFetch::goes_on, wh_fetch::specs::DiskFetch::goes_none))]
-pub(crate) fn effect_seen<D: Disk>(
-    alloc: Global,
+pub(crate) fn effect_seen<R: Threads + Sync, D: Disk>(
+    workers: &Workers<'_, R>,
     sight: &Sight<'_>,
     bound: &BoundChange,
     fetch: &mut DiskFetch<D>,
@@ -45,10 +47,11 @@ pub(crate) fn effect_seen<D: Disk>(
     ensures goes { GoesOn D.Disk fetch.old fetch.new }
     ensures counts { Counts (faults_of D.Disk fetch.old) (faults_of D.Disk fetch.new) result }
 {
+    let alloc = workers.alloc;
     let target = target_seen(alloc, sight, bound, fetch)?;
     let seen = sources_seen(alloc, sight, &bound.sources, fetch)?;
     let sources = sources_of(alloc, &seen)?;
-    effect_on(alloc, &bound.change, &target, &sources, fetch)
+    effect_on(workers, &bound.change, &target, &sources, fetch)
 }
 
 // What the session sees of its target: the partitions in which rows may not stay as they are. An
@@ -86,8 +89,8 @@ fn target_seen<D: Disk>(
 
 // What a change does to the rows of its target, over its sources.
 #[tactic(auto, using(wh_fetch::specs::DiskFetch::goes_on, wh_fetch::specs::DiskFetch::goes_none))]
-fn effect_on<D: Disk>(
-    alloc: Global,
+fn effect_on<R: Threads + Sync, D: Disk>(
+    workers: &Workers<'_, R>,
     change: &Modification,
     target: &Option<TableSeen>,
     sources: &[Source<'_>],
@@ -105,15 +108,15 @@ fn effect_on<D: Disk>(
     ensures counts { Counts (faults_of D.Disk fetch.old) (faults_of D.Disk fetch.new) result }
 {
     match target {
-        Some(target) => effect_to(alloc, change, target, sources, fetch),
-        None => effect(alloc, change, &[], sources, fetch),
+        Some(target) => effect_to(workers, change, target, sources, fetch),
+        None => effect(workers, change, &[], sources, fetch),
     }
 }
 
 // So to the rows of its target that are seen.
 #[tactic(auto, using(wh_fetch::specs::DiskFetch::goes_on, wh_fetch::specs::DiskFetch::goes_none))]
-fn effect_to<D: Disk>(
-    alloc: Global,
+fn effect_to<R: Threads + Sync, D: Disk>(
+    workers: &Workers<'_, R>,
     change: &Modification,
     target: &TableSeen,
     sources: &[Source<'_>],
@@ -130,8 +133,8 @@ fn effect_to<D: Disk>(
     ensures goes { GoesOn D.Disk fetch.old fetch.new }
     ensures counts { Counts (faults_of D.Disk fetch.old) (faults_of D.Disk fetch.new) result }
 {
-    let partitions = target.by_rows(alloc)?;
-    effect(alloc, change, &partitions, sources, fetch)
+    let partitions = target.by_rows(workers.alloc)?;
+    effect(workers, change, &partitions, sources, fetch)
 }
 
 fn is_insert(change: &Modification) -> bool

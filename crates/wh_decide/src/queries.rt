@@ -18,19 +18,21 @@ use crate::reading::sources_refusal;
 use crate::sight::Sight;
 use crate::sources::{are_streams, sources_of, sources_seen};
 use std::alloc::{AllocError, Global};
+use std::thread::Threads;
 use wh_bind::BoundSelect;
 use wh_exec::Source;
 use wh_fetch::{DiskFetch, FetchFault, MemFetch};
 use wh_plan::answered_in_order;
 use wh_reply::{Refusal, Reply};
 use wh_value::{Row, Text};
+use wh_workers::Workers;
 use wh_world::Disk;
 
 // What a SELECT comes to that nothing is found wrong with, over what the session sees. It makes no
 // commit.
 #[tactic(auto, using(wh_fetch::specs::DiskFetch::goes_on, wh_fetch::specs::DiskFetch::goes_none))]
-pub(crate) fn select<D: Disk>(
-    alloc: Global,
+pub(crate) fn select<R: Threads + Sync, D: Disk>(
+    workers: &Workers<'_, R>,
     sight: &Sight<'_>,
     bound: &BoundSelect,
     fetch: &mut DiskFetch<D>,
@@ -49,13 +51,13 @@ pub(crate) fn select<D: Disk>(
     ensures goes { GoesOn D.Disk fetch.old fetch.new }
     ensures counts { Counts (faults_of D.Disk fetch.old) (faults_of D.Disk fetch.new) result }
 {
-    if let Some(why) = sources_refusal(alloc, sight, bound.is_wide, &bound.sources)? {
+    if let Some(why) = sources_refusal(workers.alloc, sight, bound.is_wide, &bound.sources)? {
         return Ok(Decision::Refuse(why));
     }
-    let Some(rows) = listed_rows(alloc, sight, bound, fetch)? else {
+    let Some(rows) = listed_rows(workers, sight, bound, fetch)? else {
         return Ok(Decision::Refuse(Refusal::NumberOutOfRange));
     };
-    let names = copies(alloc, &bound.names)?;
+    let names = copies(workers.alloc, &bound.names)?;
     Ok(Decision::Do {
         reply: Reply::Listing { names, rows },
         settlement: Settlement::Answers,
@@ -64,8 +66,8 @@ pub(crate) fn select<D: Disk>(
 
 // Its rows in order, or None where they are undefined.
 #[tactic(auto, using(wh_fetch::specs::DiskFetch::goes_on, wh_fetch::specs::DiskFetch::goes_none))]
-fn listed_rows<D: Disk>(
-    alloc: Global,
+fn listed_rows<R: Threads + Sync, D: Disk>(
+    workers: &Workers<'_, R>,
     sight: &Sight<'_>,
     bound: &BoundSelect,
     fetch: &mut DiskFetch<D>,
@@ -84,18 +86,18 @@ fn listed_rows<D: Disk>(
     ensures goes { GoesOn D.Disk fetch.old fetch.new }
     ensures counts { Counts (faults_of D.Disk fetch.old) (faults_of D.Disk fetch.new) result }
 {
-    let seen = sources_seen(alloc, sight, &bound.sources, fetch)?;
-    let sources = sources_of(alloc, &seen)?;
+    let seen = sources_seen(workers.alloc, sight, &bound.sources, fetch)?;
+    let sources = sources_of(workers.alloc, &seen)?;
     if are_streams(&seen) {
-        let rows = listed_at_hand(alloc, bound, &sources)?;
+        let rows = listed_at_hand(workers, bound, &sources)?;
         return Ok(rows);
     }
-    answered_in_order(alloc, &bound.query, &bound.keys, &sources, fetch)
+    answered_in_order(workers, &bound.query, &bound.keys, &sources, fetch)
 }
 
 // Over rows at hand alone, for which no partition is asked.
-fn listed_at_hand(
-    alloc: Global,
+fn listed_at_hand<R: Threads + Sync>(
+    workers: &Workers<'_, R>,
     bound: &BoundSelect,
     sources: &[Source<'_>],
 ) -> Result<Option<Vec<Row>>, AllocError>
@@ -104,8 +106,8 @@ fn listed_at_hand(
         ≡ option_map (listed (keys_of bound.now.keys.items))
         (eval (query_of bound.now.query) (instance_in sources.now))) }
 {
-    let mut nothing = MemFetch::new(alloc, Vec::new(alloc))?;
-    let answer = answered_in_order(alloc, &bound.query, &bound.keys, sources, &mut nothing);
+    let mut nothing = MemFetch::new(workers.alloc, Vec::new(workers.alloc))?;
+    let answer = answered_in_order(workers, &bound.query, &bound.keys, sources, &mut nothing);
     let Ok(rows) = answer else {
         return Err(AllocError);
     };

@@ -7,14 +7,16 @@ ghost use Rattle.wh_exec.specs.Source.{instance_in, filed_in, bag_found};
 ghost use Rattle.wh_delta.specs.Moves.{rows_bag};
 
 use std::alloc::{AllocError, Global};
+use std::thread::Threads;
 use wh_algebra::{Physical, Tuple};
 use wh_exec::{Source, run};
 use wh_fetch::MemFetch;
 use wh_value::Row;
+use wh_workers::Workers;
 
 /// The rows of a plan over rows at hand; None where they are undefined.
-pub(crate) fn over(
-    alloc: Global,
+pub(crate) fn over<R: Threads + Sync>(
+    workers: &Workers<'_, R>,
     plan: &Physical,
     sources: &[Source<'_>],
 ) -> Result<Option<Vec<Row>>, AllocError>
@@ -22,8 +24,9 @@ pub(crate) fn over(
     ensures { IfOk result
         (λ found. rows_bag found ≡ eval (plan_of plan.now) (instance_in sources.now)) }
 {
+    let alloc = workers.alloc;
     let mut nothing = MemFetch::new(alloc, Vec::new(alloc))?;
-    let Ok(found) = run(alloc, plan, sources, &mut nothing) else {
+    let Ok(found) = run(workers, plan, sources, &mut nothing) else {
         return Err(AllocError);
     };
     rows_found(alloc, found)

@@ -20,17 +20,19 @@ use crate::moves::{Changing, Moves};
 use crate::reading::net_over;
 use crate::staying::counted;
 use std::alloc::{AllocError, Global};
+use std::thread::Threads;
 use wh_algebra::Query;
 use wh_bag::{Signed, net};
 use wh_exec::Source;
 use wh_fetch::{Fetch, FetchFault};
 use wh_group::is_linear;
+use wh_workers::Workers;
 
 /// The net change of a query's rows, from what its sources held before to what they hold now, where
 /// it had rows before; None where it has none now. Of a linear query only the partitions are read
 /// that one of the two instances lacks, and of any other those of the sources before too.
-pub fn delta<F: Fetch>(
-    alloc: Global,
+pub fn delta<R: Threads + Sync, F: Fetch>(
+    workers: &Workers<'_, R>,
     query: &Query,
     old: &[Source<'_>],
     new: &[Source<'_>],
@@ -51,11 +53,12 @@ pub fn delta<F: Fetch>(
     ensures goes { F.stays fetch.old fetch.new }
     ensures counts { Counts (F.faults fetch.old) (F.faults fetch.new) result }
 {
+    let alloc = workers.alloc;
     let came = moved(alloc, new, old)?;
     let gone = moved(alloc, old, new)?;
     let comes = sources_held(alloc, &came)?;
     let goes = sources_held(alloc, &gone)?;
-    let Some(moves) = moves_of(alloc, query, old, &comes, &goes, fetch)? else {
+    let Some(moves) = moves_of(workers, query, old, &comes, &goes, fetch)? else {
         return Ok(None);
     };
     let net = signed(alloc, &moves)?;
@@ -64,8 +67,8 @@ pub fn delta<F: Fetch>(
 
 /// The net change of a linear query's rows, from what of its sources came and what of them went,
 /// where it had rows before; None where it has none now. What stays is not asked for.
-pub fn linear_delta<F: Fetch>(
-    alloc: Global,
+pub fn linear_delta<R: Threads + Sync, F: Fetch>(
+    workers: &Workers<'_, R>,
     query: &Query,
     comes: &[Source<'_>],
     goes: &[Source<'_>],
@@ -89,15 +92,15 @@ pub fn linear_delta<F: Fetch>(
     ensures goes { F.stays fetch.old fetch.new }
     ensures counts { Counts (F.faults fetch.old) (F.faults fetch.new) result }
 {
-    let Some(moves) = net_over(alloc, query, comes, goes, fetch)? else {
+    let Some(moves) = net_over(workers, query, comes, goes, fetch)? else {
         return Ok(None);
     };
-    let net = signed(alloc, &moves)?;
+    let net = signed(workers.alloc, &moves)?;
     Ok(Some(net))
 }
 
-fn moves_of<F: Fetch>(
-    alloc: Global,
+fn moves_of<R: Threads + Sync, F: Fetch>(
+    workers: &Workers<'_, R>,
     query: &Query,
     old: &[Source<'_>],
     comes: &[Source<'_>],
@@ -127,10 +130,10 @@ fn moves_of<F: Fetch>(
     ensures counts { Counts (F.faults fetch.old) (F.faults fetch.new) result }
 {
     if is_linear(query) {
-        return net_over(alloc, query, comes, goes, fetch);
+        return net_over(workers, query, comes, goes, fetch);
     }
     let sources = Changing { old, comes, goes };
-    carried(alloc, query, &sources, fetch)
+    carried(workers, query, &sources, fetch)
 }
 
 pub(crate) fn signed(alloc: Global, moves: &Moves) -> Result<Signed, AllocError>

@@ -12,16 +12,18 @@ use crate::moves::{Moves, Turned};
 use crate::plans::{group, project_both};
 use crate::staying::{counted, staying};
 use std::alloc::{AllocError, Global};
+use std::thread::Threads;
 use wh_aggregate::values_on;
 use wh_algebra::Call;
 use wh_bag::Bag;
 use wh_exec::Source;
 use wh_scalar::{EvalFault, Scalar};
 use wh_value::Row;
+use wh_workers::Workers;
 
 #[tactic(auto, unfolding(wh_meaning::specs::Query::eval))]
-pub(crate) fn regroup(
-    alloc: Global,
+pub(crate) fn regroup<R: Threads + Sync>(
+    workers: &Workers<'_, R>,
     by: &[Scalar],
     calls: &[Call],
     turned: Turned,
@@ -29,24 +31,25 @@ pub(crate) fn regroup(
     ensures { IfOk result (λ found. change_found found ≡ regrouped (scalars_of by.now)
         (calls_of calls.now) (bag_of turned.old.items) (change_of turned.moves)) }
 {
+    let alloc = workers.alloc;
     if by.is_empty() {
-        return recount(alloc, by, calls, turned);
+        return recount(workers, by, calls, turned);
     }
     let Turned { old, moves } = turned;
     let plan = project_both(alloc, by)?;
     let sides = [Source::Rows(&moves.comes), Source::Rows(&moves.goes)];
-    let Some(keys) = over(alloc, plan.get(), &sides)? else {
+    let Some(keys) = over(workers, plan.get(), &sides)? else {
         return Ok(None);
     };
     let keys = counted(alloc, &keys)?;
     let old = chosen(alloc, by, &keys, old)?;
-    recount(alloc, by, calls, Turned { old, moves })
+    recount(workers, by, calls, Turned { old, moves })
 }
 
 // The groups of rows before, and afterwards.
 #[tactic(auto, unfolding(wh_meaning::specs::Query::eval))]
-fn recount(
-    alloc: Global,
+fn recount<R: Threads + Sync>(
+    workers: &Workers<'_, R>,
     by: &[Scalar],
     calls: &[Call],
     turned: Turned,
@@ -55,13 +58,13 @@ fn recount(
         (calls_of calls.now) (change_of turned.moves) (bag_of turned.old.items)) }
 {
     let Turned { old, moves } = turned;
-    let plan = group(alloc, by, calls)?;
-    let Some(goes) = over(alloc, plan.get(), &[Source::Rows(&old)])? else {
+    let plan = group(workers.alloc, by, calls)?;
+    let Some(goes) = over(workers, plan.get(), &[Source::Rows(&old)])? else {
         return Ok(None);
     };
-    let stays = staying(alloc, old, &moves.goes)?;
+    let stays = staying(workers.alloc, old, &moves.goes)?;
     let new = united(stays, moves.comes)?;
-    let Some(comes) = over(alloc, plan.get(), &[Source::Rows(&new)])? else {
+    let Some(comes) = over(workers, plan.get(), &[Source::Rows(&new)])? else {
         return Ok(None);
     };
     Ok(Some(Moves { comes, goes }))

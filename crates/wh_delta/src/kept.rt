@@ -19,7 +19,8 @@ use crate::linear::{filter_moves, project_moves};
 use crate::moved::{moved, sources_held};
 use crate::moves::Moves;
 use crate::reading::rows_of;
-use std::alloc::{AllocError, Global};
+use std::alloc::AllocError;
+use std::thread::Threads;
 use wh_algebra::Query;
 use wh_bag::Signed;
 use wh_exec::Source;
@@ -27,6 +28,7 @@ use wh_fetch::{Fetch, FetchFault};
 use wh_group::{Entry, Grouping, Groups, Updated, grouping_of, updated};
 use wh_scalar::EvalFault;
 use wh_value::Row;
+use wh_workers::Workers;
 
 /// What changes of a query and of its groups.
 #[derive(Drop)]
@@ -39,8 +41,8 @@ pub struct KeptChange {
 
 /// The change of a query that is one Group over a linear query, from its groups before and from
 /// what of its sources came and what of them went; None where it has no rows now.
-pub fn kept_delta<F: Fetch>(
-    alloc: Global,
+pub fn kept_delta<R: Threads + Sync, F: Fetch>(
+    workers: &Workers<'_, R>,
     query: &Query,
     groups: &Groups,
     comes: &[Source<'_>],
@@ -65,32 +67,32 @@ pub fn kept_delta<F: Fetch>(
     let Some(Grouping { below, by, calls }) = grouping_of(query) else {
         return Ok(None);
     };
-    let Some(comes) = rows_of(alloc, below, comes, fetch)? else {
+    let Some(comes) = rows_of(workers, below, comes, fetch)? else {
         return Ok(None);
     };
-    let Some(goes) = rows_of(alloc, below, goes, fetch)? else {
+    let Some(goes) = rows_of(workers, below, goes, fetch)? else {
         return Ok(None);
     };
     let Updated {
         entries,
         comes,
         goes,
-    } = match updated(alloc, by, calls, groups, &comes, &goes) {
+    } = match updated(workers.alloc, by, calls, groups, &comes, &goes) {
         Ok(found) => found,
         Err(EvalFault::NumberOutOfRange) => return Ok(None),
         Err(EvalFault::OutOfMemory) => return Err(FetchFault::OutOfMemory),
     };
-    let Some(moves) = above(alloc, query, comes, goes)? else {
+    let Some(moves) = above(workers, query, comes, goes)? else {
         return Ok(None);
     };
-    let rows = signed(alloc, &moves)?;
+    let rows = signed(workers.alloc, &moves)?;
     Ok(Some(KeptChange { entries, rows }))
 }
 
 /// The same from what its sources held before and what they hold now. Only partitions are read that
 /// one of the two lacks.
-pub fn kept_delta_between<F: Fetch>(
-    alloc: Global,
+pub fn kept_delta_between<R: Threads + Sync, F: Fetch>(
+    workers: &Workers<'_, R>,
     query: &Query,
     groups: &Groups,
     old: &[Source<'_>],
@@ -112,18 +114,19 @@ pub fn kept_delta_between<F: Fetch>(
     ensures goes { F.stays fetch.old fetch.new }
     ensures counts { Counts (F.faults fetch.old) (F.faults fetch.new) result }
 {
+    let alloc = workers.alloc;
     let came = moved(alloc, new, old)?;
     let gone = moved(alloc, old, new)?;
     let comes = sources_held(alloc, &came)?;
     let goes = sources_held(alloc, &gone)?;
-    kept_delta(alloc, query, groups, &comes, &goes, fetch)
+    kept_delta(workers, query, groups, &comes, &goes, fetch)
 }
 
 // What the operators above the Group of a query make of a change of its rows; None where one of
 // them is undefined on a row.
 #[tactic(auto, unfolding(wh_maintenance::specs::Above::above))]
-fn above(
-    alloc: Global,
+fn above<R: Threads + Sync>(
+    workers: &Workers<'_, R>,
     query: &Query,
     comes: Vec<Row>,
     goes: Vec<Row>,
@@ -133,16 +136,16 @@ fn above(
 {
     match query {
         Query::Filter(input, condition) => {
-            let Some(moves) = above(alloc, input.get(), comes, goes)? else {
+            let Some(moves) = above(workers, input.get(), comes, goes)? else {
                 return Ok(None);
             };
-            filter_moves(alloc, condition, &moves)
+            filter_moves(workers, condition, &moves)
         }
         Query::Project(input, items) => {
-            let Some(moves) = above(alloc, input.get(), comes, goes)? else {
+            let Some(moves) = above(workers, input.get(), comes, goes)? else {
                 return Ok(None);
             };
-            project_moves(alloc, items.as_slice(), &moves)
+            project_moves(workers, items.as_slice(), &moves)
         }
         Query::Scan(_) | Query::Join(_, _, _) | Query::UnionAll(_, _) | Query::Group(_, _, _) => {
             Ok(Some(Moves { comes, goes }))

@@ -12,48 +12,54 @@ ghost use Rattle.wh_delta.specs.Moves.{change_of, change_found};
 use crate::at_hand::over;
 use crate::moves::Moves;
 use crate::plans::{filter, project};
-use std::alloc::{AllocError, Global};
+use std::alloc::AllocError;
+use std::thread::Threads;
 use wh_algebra::Physical;
 use wh_exec::Source;
 use wh_scalar::Scalar;
 use wh_value::Row;
+use wh_workers::Workers;
 
 #[tactic(auto, unfolding(wh_meaning::specs::Query::eval))]
-pub(crate) fn filter_moves(
-    alloc: Global,
+pub(crate) fn filter_moves<R: Threads + Sync>(
+    workers: &Workers<'_, R>,
     condition: &Scalar,
     moves: &Moves,
 ) -> Result<Option<Moves>, AllocError>
     ensures { IfOk result (λ found. change_found found
         ≡ carried_over (kept_by (scalar_of condition.now)) (change_of moves.now)) }
 {
-    let plan = filter(alloc, condition)?;
-    over_both(alloc, plan.get(), moves)
+    let plan = filter(workers.alloc, condition)?;
+    over_both(workers, plan.get(), moves)
 }
 
 #[tactic(auto, unfolding(wh_meaning::specs::Query::eval))]
-pub(crate) fn project_moves(
-    alloc: Global,
+pub(crate) fn project_moves<R: Threads + Sync>(
+    workers: &Workers<'_, R>,
     items: &[Scalar],
     moves: &Moves,
 ) -> Result<Option<Moves>, AllocError>
     ensures { IfOk result (λ found. change_found found
         ≡ carried_over (image_by (scalars_of items.now)) (change_of moves.now)) }
 {
-    let plan = project(alloc, 0, items)?;
-    over_both(alloc, plan.get(), moves)
+    let plan = project(workers.alloc, 0, items)?;
+    over_both(workers, plan.get(), moves)
 }
 
 // What a plan gives over the rows that come, and over those that go.
-fn over_both(alloc: Global, plan: &Physical, moves: &Moves) -> Result<Option<Moves>, AllocError>
+fn over_both<R: Threads + Sync>(
+    workers: &Workers<'_, R>,
+    plan: &Physical,
+    moves: &Moves,
+) -> Result<Option<Moves>, AllocError>
     ensures { IfOk result (λ found. change_found found
         ≡ sided (eval (plan_of plan.now) (bag_of moves.now.comes.items ∷ []))
         (eval (plan_of plan.now) (bag_of moves.now.goes.items ∷ []))) }
 {
-    let Some(comes) = over(alloc, plan, &[Source::Rows(&moves.comes)])? else {
+    let Some(comes) = over(workers, plan, &[Source::Rows(&moves.comes)])? else {
         return Ok(None);
     };
-    let Some(goes) = over(alloc, plan, &[Source::Rows(&moves.goes)])? else {
+    let Some(goes) = over(workers, plan, &[Source::Rows(&moves.goes)])? else {
         return Ok(None);
     };
     Ok(Some(Moves { comes, goes }))

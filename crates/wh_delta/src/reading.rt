@@ -14,17 +14,18 @@ ghost use Rattle.wh_delta.specs.Moves.{rows_bag, NetsTo};
 use crate::at_hand::rows_found;
 use crate::moves::Moves;
 use crate::staying::netted;
-use std::alloc::Global;
+use std::thread::Threads;
 use wh_algebra::Query;
 use wh_exec::Source;
 use wh_fetch::{Fetch, FetchFault};
 use wh_plan::answered;
 use wh_value::Row;
+use wh_workers::Workers;
 
 /// The net of what the query gives over rows that come, and over rows that go; None where it is
 /// undefined over one of them.
-pub(crate) fn net_over<F: Fetch>(
-    alloc: Global,
+pub(crate) fn net_over<R: Threads + Sync, F: Fetch>(
+    workers: &Workers<'_, R>,
     query: &Query,
     comes: &[Source<'_>],
     goes: &[Source<'_>],
@@ -45,19 +46,19 @@ pub(crate) fn net_over<F: Fetch>(
     ensures goes { F.stays fetch.old fetch.new }
     ensures counts { Counts (F.faults fetch.old) (F.faults fetch.new) result }
 {
-    let Some(comes) = rows_of(alloc, query, comes, fetch)? else {
+    let Some(comes) = rows_of(workers, query, comes, fetch)? else {
         return Ok(None);
     };
-    let Some(goes) = rows_of(alloc, query, goes, fetch)? else {
+    let Some(goes) = rows_of(workers, query, goes, fetch)? else {
         return Ok(None);
     };
-    let net = netted(alloc, Moves { comes, goes })?;
+    let net = netted(workers.alloc, Moves { comes, goes })?;
     Ok(Some(net))
 }
 
 /// The rows of a query; None where they are undefined.
-pub(crate) fn rows_of<F: Fetch>(
-    alloc: Global,
+pub(crate) fn rows_of<R: Threads + Sync, F: Fetch>(
+    workers: &Workers<'_, R>,
     query: &Query,
     sources: &[Source<'_>],
     fetch: &mut F,
@@ -73,6 +74,6 @@ pub(crate) fn rows_of<F: Fetch>(
     ensures goes { F.stays fetch.old fetch.new }
     ensures counts { Counts (F.faults fetch.old) (F.faults fetch.new) result }
 {
-    let found = answered(alloc, query, sources, fetch)?;
-    Ok(rows_found(alloc, found)?)
+    let found = answered(workers, query, sources, fetch)?;
+    Ok(rows_found(workers.alloc, found)?)
 }

@@ -16,6 +16,7 @@ use crate::merge::merged;
 use crate::update::updated;
 use crate::{Effect, EffectFault};
 use std::alloc::Global;
+use std::thread::Threads;
 use wh_bound_change::Modification;
 use wh_exec::Source;
 use wh_fetch::{DiskFetch, FetchFault};
@@ -23,12 +24,13 @@ use wh_part::Partition;
 use wh_plan::answered_in_order;
 use wh_scalar::Condition;
 use wh_value::Row;
+use wh_workers::Workers;
 use wh_world::Disk;
 
 /// What a change does to the rows of its target's partitions, in their order, over its sources.
 #[tactic(auto, using(wh_fetch::specs::DiskFetch::goes_on, wh_fetch::specs::DiskFetch::goes_none))]
-pub fn effect<D: Disk>(
-    alloc: Global,
+pub fn effect<R: Threads + Sync, D: Disk>(
+    workers: &Workers<'_, R>,
     change: &Modification,
     target: &[&Partition],
     sources: &[Source<'_>],
@@ -44,16 +46,16 @@ pub fn effect<D: Disk>(
     ensures goes { GoesOn D.Disk fetch.old fetch.new }
     ensures counts { Counts (faults_of D.Disk fetch.old) (faults_of D.Disk fetch.new) result }
 {
-    let source = source_rows(alloc, change, sources, fetch)?;
-    let found = effect_over(alloc, change, target, source);
+    let source = source_rows(workers, change, sources, fetch)?;
+    let found = effect_over(workers.alloc, change, target, source);
     Ok(found)
 }
 
 // The rows of a change's query in the row order, or None where they are undefined. A change
 // without a query has none.
 #[tactic(auto, using(wh_fetch::specs::DiskFetch::goes_on, wh_fetch::specs::DiskFetch::goes_none))]
-fn source_rows<D: Disk>(
-    alloc: Global,
+fn source_rows<R: Threads + Sync, D: Disk>(
+    workers: &Workers<'_, R>,
     change: &Modification,
     sources: &[Source<'_>],
     fetch: &mut DiskFetch<D>,
@@ -70,10 +72,10 @@ fn source_rows<D: Disk>(
 {
     match change {
         Modification::InsertQuery(query, _) | Modification::Merge(query, _, _) => {
-            answered_in_order(alloc, query, &[], sources, fetch)
+            answered_in_order(workers, query, &[], sources, fetch)
         }
         Modification::InsertRows(_) | Modification::Update(_, _) | Modification::Delete(_) => {
-            Ok(Some(Vec::new(alloc)))
+            Ok(Some(Vec::new(workers.alloc)))
         }
     }
 }

@@ -7,6 +7,7 @@ use wh_record::Commit;
 use wh_reply::{Refusal, Reply};
 use wh_tick::decide;
 use wh_value::Limit;
+use wh_workers::Workers;
 use wh_world::Disk;
 
 impl<D: Disk> Warehouse<D> {
@@ -41,7 +42,7 @@ impl<D: Disk> Warehouse<D> {
     /// Carries out one event, and gives its reply. A halt leaves the state and the open
     /// transactions as they were; after a fault of a write or a sync the file has to be opened
     /// again.
-    pub fn carry_out(&mut self, _rt: &(impl Threads + Sync), event: &Event) -> Result<Reply, Halt>
+    pub fn carry_out(&mut self, rt: &(impl Threads + Sync), event: &Event) -> Result<Reply, Halt>
         // Over a file that shows what is filed, as that of an opened warehouse does, and from a
         // sound state.
         ensures answered { ShowsAll self.old → Sound (state_of self.old.catalog)
@@ -71,7 +72,12 @@ impl<D: Disk> Warehouse<D> {
         if Limit::Stamp.bound() <= stamp {
             return Ok(Reply::Refused(Refusal::OverLimit(Limit::Stamp)));
         }
-        let decision = self.decide(stamp, event)?;
+        let workers = Workers {
+            rt,
+            alloc: self.alloc,
+            count: self.workers,
+        };
+        let decision = self.decide(&workers, stamp, event)?;
         let (reply, settlement) = decision.into_parts();
         self.settle(stamp, settlement)?;
         Ok(reply)
@@ -87,7 +93,12 @@ impl<D: Disk> Warehouse<D> {
     }
 
     // What an event comes to at a stamp.
-    fn decide(&mut self, stamp: u64, event: &Event) -> Result<Decision, Halt>
+    fn decide<R: Threads + Sync>(
+        &mut self,
+        workers: &Workers<'_, R>,
+        stamp: u64,
+        event: &Event,
+    ) -> Result<Decision, Halt>
         requires begun { IsBegun self.old }
         requires healthy { failed_of self.old.journal ≡ None }
         ensures decides { ShowsAll self.old → Sound (state_of self.old.catalog)
@@ -113,7 +124,7 @@ impl<D: Disk> Warehouse<D> {
             Halted self.old self.new commit halt) }
     {
         match decide(
-            self.alloc,
+            workers,
             &self.catalog,
             &self.sessions,
             stamp,

@@ -35,7 +35,7 @@ impl<D: Disk> Warehouse<D> {
         let mut disk = disk;
         match read(alloc, &mut disk, limit) {
             Ok((journal, catalog, sessions)) => {
-                Warehouse::of(alloc, disk, journal, catalog, sessions)
+                Warehouse::of(alloc, disk, workers, journal, catalog, sessions)
             }
             Err(fault) => Err((fault, disk)),
         }
@@ -45,11 +45,13 @@ impl<D: Disk> Warehouse<D> {
     fn of(
         alloc: Global,
         disk: D,
+        workers: u32,
         journal: Journal,
         catalog: Catalog,
         sessions: Sessions,
     ) -> Result<Warehouse<D>, (OpenFault, D)>
-        requires { end_of journal ≤ D.size disk }
+        requires some_worker { 1 ≤ workers }
+        requires reach { end_of journal ≤ D.size disk }
         ensures made { IfOk result (λ w. (w.fetch.disk ≡ disk) × (w.journal ≡ journal)
             × (w.catalog ≡ catalog) × (w.sessions ≡ sessions)) }
         ensures back { IfErr result (λ e. (e.0 ≡ OpenFault.OutOfMemory) × (e.1 ≡ disk)) }
@@ -57,6 +59,7 @@ impl<D: Disk> Warehouse<D> {
         match DiskFetch::new(alloc, disk, records_end(&journal)) {
             Ok(fetch) => Ok(Warehouse {
                 alloc,
+                workers,
                 fetch,
                 journal,
                 catalog,

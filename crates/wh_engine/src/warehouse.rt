@@ -16,10 +16,13 @@ use wh_world::Disk;
 #[derive(Drop)]
 pub struct Warehouse<D: Disk> {
     pub(crate) alloc: Global,
+    /// By how many workers the rows of queries are gone over.
+    pub(crate) workers: u32,
     pub(crate) fetch: DiskFetch<D>,
     pub(crate) journal: Journal,
     pub(crate) catalog: Catalog,
     pub(crate) sessions: Sessions,
+    ghost some_worker: { 1 ≤ workers },
     ghost reach: { end_of journal ≤ D.size fetch.disk },
     ghost front: { fetch.reach < end_of journal },
     ghost right: { IsRight D.Disk fetch },

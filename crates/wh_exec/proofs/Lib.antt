@@ -13,3 +13,7 @@ pub mod SourceLaws
 mod FeedLaws
 mod Sizes
 mod AskLaws
+mod EachLaws
+mod Kept
+mod BatchLaws
+mod PieceLaws

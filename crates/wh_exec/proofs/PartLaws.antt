@@ -2,7 +2,7 @@
 --     values_of                the rows of a partition
 --     meant                    what comes of the rows of partitions
 --     meant-none, meant-behind of none of them, and of some behind others
---     part_more                one of them more
+--     part_met, part_more      one of them more
 --     part_lacks, part_stops   one whose rows are undefined
 --     filed_there              the partition of a reference among others
 --     passed_over, last_parted what a condition rejects gives no rows
@@ -59,17 +59,21 @@ meant-behind steps ps qs = ap (λ b. through steps (Some b)) (parts_bag-append p
 pub meant-none : (steps : List Step) (sink : Sink) → Takes sink sink (meant steps [])
 meant-none steps sink = subst (Takes sink sink) (sym (through-no_rows steps)) (takes_none sink)
 
-meant-one : (steps : List Step) (p : Partition) → through steps (Some (bag_of (values_of p))) ≡ meant steps (p ∷ [])
+pub meant-one : (steps : List Step) (p : Partition) → through steps (Some (bag_of (values_of p))) ≡ meant steps (p ∷ [])
 meant-one steps p = ap (λ b. through steps (Some b)) (sym (one_part p))
+
+module _ (steps : List Step) (all : List Partition) (i : ℕ) (p : Partition) (within : i < length all)
+    (at : p ≡ get_or all i p) where
+  pub part_met : meant steps (take (i + 1) all)
+      ≡ beside (meant steps (take i all)) (through steps (Some (bag_of (values_of p))))
+  part_met = ap (meant steps) (one_more all i p within at) ∙ meant-behind steps (take i all) (p ∷ [])
+      ∙ ap (beside (meant steps (take i all))) (sym (meant-one steps p))
 
 module _ (steps : List Step) {first mid : Sink} (all : List Partition) (i : ℕ) (p : Partition)
     (within : i < length all) (at : p ≡ get_or all i p) (takes : Takes first mid (meant steps (take i all))) where
   pub part_more : {last : Sink} → Takes mid last (through steps (Some (bag_of (values_of p))))
       → Takes first last (meant steps (take (i + 1) all))
-  part_more {last} more = subst (Takes first last)
-      (sym (ap (meant steps) (one_more all i p within at) ∙ meant-behind steps (take i all) (p ∷ [])
-      ∙ ap (beside (meant steps (take i all))) (sym (meant-one steps p))))
-      (takes_on takes more)
+  part_more {last} more = subst (Takes first last) (sym (part_met steps all i p within at)) (takes_on takes more)
 
   pub part_lacks : Lacks mid (through steps (Some (bag_of (values_of p)))) → Lacks first (meant steps all)
   part_lacks lacks = subst (Lacks first)

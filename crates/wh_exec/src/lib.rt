@@ -5,6 +5,7 @@ mod codes;
 mod collecting;
 mod columns;
 mod defined;
+mod each;
 mod feeding;
 mod filter;
 mod grouping;

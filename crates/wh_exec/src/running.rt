@@ -10,15 +10,17 @@ ghost use Rattle.wh_exec.specs.Asked.{filed_by, asked_for};
 use crate::Source;
 use crate::feeding::gather;
 use crate::sink::Sink;
-use std::alloc::Global;
+use std::thread::Threads;
 use wh_algebra::{Physical, Tuple};
 use wh_fetch::{Fetch, FetchFault};
+use wh_workers::Workers;
 
 /// The rows of a plan over its sources, whose partitions are read one after the other; None where
-/// they are undefined. A partition on whose rows the condition above its scan is TRUE nowhere is
-/// passed over. A source that isn't there has no rows.
-pub fn run<'a, F: Fetch>(
-    alloc: Global,
+/// they are undefined. Several workers go over the rows of up to 256 partitions at once. A partition
+/// on whose rows the condition above its scan is TRUE nowhere is passed over. A source that isn't
+/// there has no rows.
+pub fn run<'a, R: Threads + Sync, F: Fetch>(
+    workers: &Workers<'_, R>,
     plan: &Physical,
     sources: &[Source<'_>],
     fetch: &mut F,
@@ -35,6 +37,6 @@ pub fn run<'a, F: Fetch>(
     ensures goes { F.stays fetch.old fetch.new }
     ensures counts { Counts (F.faults fetch.old) (F.faults fetch.new) result }
 {
-    let rows = Sink::Rows(Vec::new(alloc));
-    gather(alloc, plan, sources, fetch, rows)
+    let rows = Sink::Rows(Vec::new(workers.alloc));
+    gather(workers, plan, sources, fetch, rows)
 }

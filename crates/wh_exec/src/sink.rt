@@ -7,8 +7,10 @@ ghost use Rattle.wh_exec.specs.Sink.{answer, shape_of, Has, Pours};
 use crate::collecting::owned;
 use crate::grouping::Grouping;
 use std::alloc::{AllocError, Global};
+use std::thread::Threads;
 use wh_algebra::Tuple;
 use wh_scalar::EvalFault;
+use wh_workers::Workers;
 
 /// Where rows go in the end.
 #[derive(Drop)]
@@ -20,16 +22,16 @@ pub(crate) enum Sink<'a> {
 }
 
 /// Takes rows in.
-pub(crate) fn put_in(
-    alloc: Global,
+pub(crate) fn put_in<R: Threads + Sync>(
+    workers: &Workers<'_, R>,
     rows: Vec<Tuple<'_>>,
     sink: &mut Sink<'_>,
 ) -> Result<(), EvalFault>
     ensures { Pours result sink.old sink.new (Some (bag_of (rows_in rows.entry.items))) }
 {
     match sink {
-        Sink::Rows(kept) => Ok(put_all(alloc, kept, rows)?),
-        Sink::Groups(grouping) => grouping.add(alloc, &rows),
+        Sink::Rows(kept) => Ok(put_all(workers.alloc, kept, rows)?),
+        Sink::Groups(grouping) => grouping.add(workers, &rows),
     }
 }
 

@@ -17,5 +17,5 @@ mod worked;
 pub use grouping::{Grouping, grouping_of, is_linear};
 pub use groups::{Before, Entry, Groups};
 pub use settling::Updated;
-pub use standing::{Standing, Total};
+pub use standing::{Standing, Total, Totals};
 pub use updating::updated;

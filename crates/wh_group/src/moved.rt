@@ -6,7 +6,7 @@ ghost use Rattle.wh_maintenance.specs.Standing.{moved_total, moved_totals, if_le
 ghost use Rattle.wh_group.specs.Moved.{LeavesGroup, LeavesTotals, LeavesTotal};
 
 use crate::moving::Moving;
-use crate::standing::{Standing, Total};
+use crate::standing::{Standing, Total, Totals};
 use crate::tally::{Tallies, Tally};
 use std::alloc::{AllocError, Global};
 use wh_algebra::Call;
@@ -59,10 +59,11 @@ fn moved_by(
     if rows == 0 {
         return Ok(None);
     }
-    let mut totals = Vec::with_capacity(alloc, was.totals.len())?;
+    let mut totals = Totals::new(alloc);
+    totals.reserve(was.totals.len())?;
     move_totals(
         calls,
-        &was.totals,
+        was.totals.as_slice(),
         &came.tallies,
         &went.tallies,
         &mut totals,
@@ -76,7 +77,7 @@ fn move_totals(
     was: &[Total],
     came: &[Tally],
     went: &[Tally],
-    totals: &mut Vec<Total>,
+    totals: &mut Totals,
 ) -> Result<(), EvalFault>
     ensures { LeavesTotals result (calls_of calls.now) (moved_totals was.now came.now went.now)
         totals.old.items totals.new.items }

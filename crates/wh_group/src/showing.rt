@@ -41,7 +41,7 @@ fn shown(alloc: Global, calls: &[Call], key: &Row, group: &Standing) -> Result<R
     ensures { Gives result (group_row (calls_of calls.now) key.now group.now.totals) }
 {
     let mut row = key.copy(alloc)?;
-    push_answers(calls, &group.totals, &mut row)?;
+    push_answers(calls, group.totals.as_slice(), &mut row)?;
     Ok(row)
 }
 

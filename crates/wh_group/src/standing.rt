@@ -2,12 +2,13 @@
 ghost use Rattle.std.specs.Prelude.{◌≡◌, ◌↔◌, IsTrue};
 ghost use Rattle.std.specs.Option.{option_copied};
 
+use smallvec::SmallVec;
 use std::alloc::{AllocError, Global};
 use std::marker::Model;
 use wh_algebra::Call;
 
 /// A sum of numbers, and how many values were added that aren't NULL.
-#[derive(Debug, Drop)]
+#[derive(Debug, Default, Drop)]
 pub struct Total {
     pub sum: i64,
     pub values: u64,
@@ -24,11 +25,15 @@ impl Model for Total {
     ghost view = { λ t. record { sum = t.sum; values = t.values } };
 }
 
+/// What the calls of a group have added up, in their order. Those of one or two calls take no
+/// memory of their own.
+pub type Totals = SmallVec<Total, 2>;
+
 /// A kept group: how many rows it has, and what each call has added up. A COUNT's sum is 0.
 #[derive(Debug, Drop)]
 pub struct Standing {
     pub rows: u64,
-    pub totals: Vec<Total>,
+    pub totals: Totals,
 }
 
 impl Model for Standing {
@@ -54,7 +59,7 @@ impl Standing {
     {
         Standing {
             rows: 0,
-            totals: Vec::new(alloc),
+            totals: Totals::new(alloc),
         }
     }
 
@@ -62,7 +67,8 @@ impl Standing {
     pub(crate) fn begun(alloc: Global, calls: &[Call]) -> Result<Standing, AllocError>
         ensures { IfOk result (λ s. s ≡ begun_standing (calls_of calls.now)) }
     {
-        let mut totals = Vec::with_capacity(alloc, calls.len())?;
+        let mut totals = Totals::new(alloc);
+        totals.reserve(calls.len())?;
         for _ in calls {
             totals.push(Total { sum: 0, values: 0 })?;
         }
@@ -84,7 +90,7 @@ pub(crate) fn is_same(a: Option<&Standing>, b: Option<&Standing>) -> bool
 fn is_same_standing(a: &Standing, b: &Standing) -> bool
     ensures { IsTrue result ↔ (a.now ≡ b.now) }
 {
-    a.rows == b.rows && are_same(&a.totals, &b.totals)
+    a.rows == b.rows && are_same(a.totals.as_slice(), b.totals.as_slice())
 }
 
 #[cycle(are_same)]

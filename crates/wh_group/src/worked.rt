@@ -1,4 +1,4 @@
-use crate::{Before, Entry, Groups, Standing, updated};
+use crate::{Before, Entry, Groups, Standing, Totals, updated};
 use std::alloc::Global;
 use std::process::Abort;
 use wh_algebra::Call;
@@ -45,7 +45,10 @@ fn moved(
 // The sum and the rows of the group at a key; two zeros where none stands.
 fn found_at(rt: &impl Abort, alloc: Global, groups: &Groups, key: i64) -> (i64, u64) {
     match groups.get(&key_of(rt, alloc, key)) {
-        Some(group) => (group.totals.first().expect(rt, "a total").sum, group.rows),
+        Some(group) => (
+            group.totals.as_slice().first().expect(rt, "a total").sum,
+            group.rows,
+        ),
         None => (0, 0),
     }
 }
@@ -101,7 +104,7 @@ fn set_rows(
 ) -> Option<Entry> {
     let group = rows.map(|rows| Standing {
         rows,
-        totals: Vec::new(alloc),
+        totals: Totals::new(alloc),
     });
     let key = key_of(rt, alloc, 1);
     groups.set(alloc, Entry { key, group }).ok()

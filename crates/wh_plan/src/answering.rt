@@ -12,16 +12,17 @@ ghost use Rattle.wh_exec.specs.Asked.{filed_by, asked_for};
 ghost use Rattle.wh_plan.specs.Rows.{rows_found};
 
 use crate::plan;
-use std::alloc::Global;
+use std::thread::Threads;
 use wh_algebra::{Query, Tuple};
 use wh_exec::{Source, run};
 use wh_fetch::{Fetch, FetchFault};
 use wh_listing::{SortKey, listed};
 use wh_value::Row;
+use wh_workers::Workers;
 
 /// The rows of a query over its sources, by its plan; None where they are undefined.
-pub fn answered<'a, F: Fetch>(
-    alloc: Global,
+pub fn answered<'a, R: Threads + Sync, F: Fetch>(
+    workers: &Workers<'_, R>,
     query: &Query,
     sources: &[Source<'_>],
     fetch: &mut F,
@@ -37,13 +38,13 @@ pub fn answered<'a, F: Fetch>(
     ensures goes { F.stays fetch.old fetch.new }
     ensures counts { Counts (F.faults fetch.old) (F.faults fetch.new) result }
 {
-    let plan = plan(alloc, query, sources)?;
-    run(alloc, plan.get(), sources, fetch)
+    let plan = plan(workers.alloc, query, sources)?;
+    run(workers, plan.get(), sources, fetch)
 }
 
 /// Its rows in the order of keys.
-pub fn answered_in_order<F: Fetch>(
-    alloc: Global,
+pub fn answered_in_order<R: Threads + Sync, F: Fetch>(
+    workers: &Workers<'_, R>,
     query: &Query,
     keys: &[SortKey],
     sources: &[Source<'_>],
@@ -61,9 +62,9 @@ pub fn answered_in_order<F: Fetch>(
     ensures goes { F.stays fetch.old fetch.new }
     ensures counts { Counts (F.faults fetch.old) (F.faults fetch.new) result }
 {
-    let Some(tuples) = answered(alloc, query, sources, fetch)? else {
+    let Some(tuples) = answered(workers, query, sources, fetch)? else {
         return Ok(None);
     };
-    let rows = listed(alloc, keys, tuples)?;
+    let rows = listed(workers.alloc, keys, tuples)?;
     Ok(Some(rows))
 }

@@ -6,7 +6,7 @@ ghost use Rattle.wh_dynamic.specs.View.{groups_change_of};
 
 use std::alloc::Global;
 use wh_dynamic::GroupsChange;
-use wh_group::{Entry, Standing, Total};
+use wh_group::{Entry, Standing, Total, Totals};
 use wh_part::{ReadError, read_u32, read_u64, read_value};
 use wh_value::{Row, cmp_rows};
 
@@ -30,11 +30,12 @@ fn read_total(bytes: &[u8]) -> Result<(Total, &[u8]), ReadError>
     Ok((Total { sum, values }, rest))
 }
 
-fn read_totals(alloc: Global, calls: u32, bytes: &[u8]) -> Result<(Vec<Total>, &[u8]), ReadError>
+fn read_totals(alloc: Global, calls: u32, bytes: &[u8]) -> Result<(Totals, &[u8]), ReadError>
     ensures { Gives (λ x. (x.0.items, x.1.now)) result (items_at spec.total_at calls bytes.now) }
 {
     // each total has sixteen bytes
-    let mut totals = Vec::with_capacity(alloc, (calls as usize).min(bytes.len() / 16))?;
+    let mut totals = Totals::new(alloc);
+    totals.reserve((calls as usize).min(bytes.len() / 16))?;
     let mut rest = bytes;
     for _ in 0..calls {
         let (total, after) = read_total(rest)?;
@@ -75,7 +76,7 @@ fn read_group(
     if rows > 0 {
         return Ok((Some(Standing { rows, totals }), rest));
     }
-    if !are_nothing(&totals) {
+    if !are_nothing(totals.as_slice()) {
         return Err(ReadError::Malformed);
     }
     Ok((None, rest))

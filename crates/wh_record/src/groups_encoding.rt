@@ -49,7 +49,7 @@ fn write_standing(out: &mut Bytes, calls: u32, group: &Standing) -> Result<(), A
         return Err(AllocError);
     }
     write_u64(out, group.rows)?;
-    write_totals(out, &group.totals)
+    write_totals(out, group.totals.as_slice())
 }
 
 /// Adds a total for each call, with nothing added up.

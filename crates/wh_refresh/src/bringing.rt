@@ -24,15 +24,16 @@ use crate::objects::{dynamic_at, table_at};
 use crate::rebase::Rebased;
 use crate::rows::{Regrouped, rebased_by};
 use crate::sources::has_new_data;
-use std::alloc::Global;
+use std::thread::Threads;
 use wh_catalog::{StoredObject, StoredTable};
 use wh_dynamic::Dynamic;
 use wh_fetch::{Fetch, FetchFault};
 use wh_reply::RefreshAction;
+use wh_workers::Workers;
 
 /// Those of some ids, or None where an evaluation is undefined.
-pub(crate) fn bring_all<F: Fetch>(
-    alloc: Global,
+pub(crate) fn bring_all<R: Threads + Sync, F: Fetch>(
+    workers: &Workers<'_, R>,
     objects: &[&StoredObject],
     moment: u64,
     ids: &[u32],
@@ -53,9 +54,9 @@ pub(crate) fn bring_all<F: Fetch>(
     ensures goes { F.stays fetch.old fetch.new }
     ensures counts { Counts (F.faults fetch.old) (F.faults fetch.new) result }
 {
-    let mut brought = Vec::new(alloc);
+    let mut brought = Vec::new(workers.alloc);
     for id in ids {
-        match bring(alloc, objects, &brought, moment, *id, fetch)? {
+        match bring(workers, objects, &brought, moment, *id, fetch)? {
             Some(one) => brought.push(one)?,
             None => return Ok(None),
         }
@@ -63,8 +64,8 @@ pub(crate) fn bring_all<F: Fetch>(
     Ok(Some(brought))
 }
 
-fn bring<F: Fetch>(
-    alloc: Global,
+fn bring<R: Threads + Sync, F: Fetch>(
+    workers: &Workers<'_, R>,
     objects: &[&StoredObject],
     before: &[Brought],
     moment: u64,
@@ -106,7 +107,7 @@ fn bring<F: Fetch>(
         }));
     }
     let found = new_rows(
-        alloc, objects, before, moment, dynamic, table, action, fetch,
+        workers, objects, before, moment, dynamic, table, action, fetch,
     )?;
     let Some(rows) = found else {
         return Ok(None);
@@ -155,8 +156,8 @@ fn by_mode(dynamic: &Dynamic) -> RefreshAction
 
 // The version to come, or None where its query is undefined. One that is brought by a change has
 // the rows of its query for the moment that it stands for.
-fn new_rows<F: Fetch>(
-    alloc: Global,
+fn new_rows<R: Threads + Sync, F: Fetch>(
+    workers: &Workers<'_, R>,
     objects: &[&StoredObject],
     before: &[Brought],
     moment: u64,
@@ -187,13 +188,13 @@ fn new_rows<F: Fetch>(
     ensures counts { Counts (F.faults fetch.old) (F.faults fetch.new) result }
 {
     let found = rebased_by(
-        alloc, objects, before, moment, dynamic, table, action, fetch,
+        workers, objects, before, moment, dynamic, table, action, fetch,
     )?;
     let Some(Regrouped { rebased, groups }) = found else {
         return Ok(None);
     };
     let Rebased { edits, plus, minus } = rebased;
-    let edited = table.edited(alloc, edits, fetch)?;
+    let edited = table.edited(workers.alloc, edits, fetch)?;
     Ok(Some(NewRows {
         edited,
         plus,

@@ -35,6 +35,7 @@ use crate::moving::{some_brought, sources_moved};
 use crate::rebase::{Rebased, rebase};
 use crate::sources::{sources_held, sources_of};
 use std::alloc::{AllocError, Global};
+use std::thread::Threads;
 use wh_algebra::{Query, Tuple};
 use wh_bag::{Bag, Signed, apply};
 use wh_catalog::{StoredObject, StoredTable};
@@ -46,11 +47,12 @@ use wh_filed::fetch_all;
 use wh_group::is_linear;
 use wh_part::{NumberedRow, Partition};
 use wh_table::by_rows;
+use wh_workers::Workers;
 
 /// The net change of the rows of its query from the moment that it stands for to another, where
 /// some of its sources were brought to that one; None where there are none then.
-pub(crate) fn change_of_rows<F: Fetch>(
-    alloc: Global,
+pub(crate) fn change_of_rows<R: Threads + Sync, F: Fetch>(
+    workers: &Workers<'_, R>,
     objects: &[&StoredObject],
     before: &[Brought],
     moment: u64,
@@ -75,14 +77,22 @@ pub(crate) fn change_of_rows<F: Fetch>(
     ensures goes { F.stays fetch.old fetch.new }
     ensures counts { Counts (F.faults fetch.old) (F.faults fetch.new) result }
 {
-    let bound = bound(alloc, objects, dynamic.query())?;
+    let bound = bound(workers.alloc, objects, dynamic.query())?;
     let query = &bound.get().query;
     let from = dynamic.state().moment;
     if from <= moment && is_linear(query) && !some_brought(before, dynamic.reads()) {
-        return change_by_moves(alloc, objects, query, from, moment, dynamic.reads(), fetch);
+        return change_by_moves(
+            workers,
+            objects,
+            query,
+            from,
+            moment,
+            dynamic.reads(),
+            fetch,
+        );
     }
     change_by_sources(
-        alloc,
+        workers,
         objects,
         before,
         query,
@@ -94,8 +104,8 @@ pub(crate) fn change_of_rows<F: Fetch>(
 }
 
 // Of a linear query, none of whose sources is brought: from what came in them and what went.
-fn change_by_moves<F: Fetch>(
-    alloc: Global,
+fn change_by_moves<R: Threads + Sync, F: Fetch>(
+    workers: &Workers<'_, R>,
     objects: &[&StoredObject],
     query: &Query,
     from: u64,
@@ -120,15 +130,16 @@ fn change_by_moves<F: Fetch>(
     ensures goes { F.stays fetch.old fetch.new }
     ensures counts { Counts (F.faults fetch.old) (F.faults fetch.new) result }
 {
+    let alloc = workers.alloc;
     let moved = sources_moved(alloc, objects, from, to, ids)?;
     let came = sources_of(alloc, &moved.came)?;
     let went = sources_of(alloc, &moved.went)?;
-    linear_delta(alloc, query, &came, &went, fetch)
+    linear_delta(workers, query, &came, &went, fetch)
 }
 
 // Of any other query: from what its sources held before and what they hold now.
-fn change_by_sources<F: Fetch>(
-    alloc: Global,
+fn change_by_sources<R: Threads + Sync, F: Fetch>(
+    workers: &Workers<'_, R>,
     objects: &[&StoredObject],
     before: &[Brought],
     query: &Query,
@@ -154,11 +165,12 @@ fn change_by_sources<F: Fetch>(
     ensures goes { F.stays fetch.old fetch.new }
     ensures counts { Counts (F.faults fetch.old) (F.faults fetch.new) result }
 {
+    let alloc = workers.alloc;
     let stood = sources_held(alloc, objects, &[], from, ids)?;
     let held = sources_held(alloc, objects, before, to, ids)?;
     let old = sources_of(alloc, &stood)?;
     let new = sources_of(alloc, &held)?;
-    delta(alloc, query, &old, &new, fetch)
+    delta(workers, query, &old, &new, fetch)
 }
 
 /// The edits that a net change makes of a table's rows.

@@ -16,6 +16,7 @@ ghost use Rattle.wh_refresh.specs.Objects.{objects_in};
 use crate::objects::object_at;
 use sqlite_items::Boxed;
 use std::alloc::{AllocError, Global};
+use std::thread::Threads;
 use wh_algebra::Query;
 use wh_bag::Bag;
 use wh_bind::bind_query;
@@ -26,10 +27,11 @@ use wh_exec::{Source, collected};
 use wh_fetch::{Fetch, FetchFault};
 use wh_naming::Named;
 use wh_plan::answered;
+use wh_workers::Workers;
 
 /// The rows of a query over its sources, or None where it is undefined.
-pub(crate) fn evaluated<F: Fetch>(
-    alloc: Global,
+pub(crate) fn evaluated<R: Threads + Sync, F: Fetch>(
+    workers: &Workers<'_, R>,
     objects: &[&StoredObject],
     query: &DynamicQuery,
     sources: &[Source<'_>],
@@ -46,8 +48,8 @@ pub(crate) fn evaluated<F: Fetch>(
     ensures goes { F.stays fetch.old fetch.new }
     ensures counts { Counts (F.faults fetch.old) (F.faults fetch.new) result }
 {
-    let bound = bound(alloc, objects, query)?;
-    evaluated_over(alloc, &bound.get().query, sources, fetch)
+    let bound = bound(workers.alloc, objects, query)?;
+    evaluated_over(workers, &bound.get().query, sources, fetch)
 }
 
 /// The query bound over the objects that it names.
@@ -64,8 +66,8 @@ pub(crate) fn bound(
     bind_query(alloc, &names, 0, query.tree.get())
 }
 
-fn evaluated_over<F: Fetch>(
-    alloc: Global,
+fn evaluated_over<R: Threads + Sync, F: Fetch>(
+    workers: &Workers<'_, R>,
     query: &Query,
     sources: &[Source<'_>],
     fetch: &mut F,
@@ -80,10 +82,10 @@ fn evaluated_over<F: Fetch>(
     ensures goes { F.stays fetch.old fetch.new }
     ensures counts { Counts (F.faults fetch.old) (F.faults fetch.new) result }
 {
-    let Some(tuples) = answered(alloc, query, sources, fetch)? else {
+    let Some(tuples) = answered(workers, query, sources, fetch)? else {
         return Ok(None);
     };
-    let bag = collected(alloc, tuples)?;
+    let bag = collected(workers.alloc, tuples)?;
     Ok(Some(bag))
 }
 

@@ -26,18 +26,19 @@ use crate::moving::{some_brought, sources_moved};
 use crate::rebase::Rebased;
 use crate::rows::{Regrouped, rebased};
 use crate::sources::{sources_held, sources_of};
-use std::alloc::Global;
+use std::thread::Threads;
 use wh_algebra::Query;
 use wh_catalog::{StoredObject, StoredTable};
 use wh_delta::{KeptChange, kept_delta, kept_delta_between};
 use wh_dynamic::{Dynamic, GroupsChange, Kept};
 use wh_fetch::{Fetch, FetchFault};
 use wh_group::{Entry, Groups};
+use wh_workers::Workers;
 
 /// From its groups, and what came and went in its sources. A table that stands for no moment has
 /// none, and all that its sources hold has come.
-pub(crate) fn rebased_by_groups<F: Fetch>(
-    alloc: Global,
+pub(crate) fn rebased_by_groups<R: Threads + Sync, F: Fetch>(
+    workers: &Workers<'_, R>,
     objects: &[&StoredObject],
     before: &[Brought],
     moment: u64,
@@ -69,14 +70,18 @@ pub(crate) fn rebased_by_groups<F: Fetch>(
     ensures counts { Counts (F.faults fetch.old) (F.faults fetch.new) result }
 {
     if dynamic.state().moment == 0 {
-        return rebased_from_nothing(alloc, objects, before, moment, dynamic, kept, table, fetch);
+        return rebased_from_nothing(
+            workers, objects, before, moment, dynamic, kept, table, fetch,
+        );
     }
-    rebased_from_groups(alloc, objects, before, moment, dynamic, kept, table, fetch)
+    rebased_from_groups(
+        workers, objects, before, moment, dynamic, kept, table, fetch,
+    )
 }
 
 // Its first groups and rows.
-fn rebased_from_nothing<F: Fetch>(
-    alloc: Global,
+fn rebased_from_nothing<R: Threads + Sync, F: Fetch>(
+    workers: &Workers<'_, R>,
     objects: &[&StoredObject],
     before: &[Brought],
     moment: u64,
@@ -101,17 +106,17 @@ fn rebased_from_nothing<F: Fetch>(
     ensures goes { F.stays fetch.old fetch.new }
     ensures counts { Counts (F.faults fetch.old) (F.faults fetch.new) result }
 {
-    let found = change_from_nothing(alloc, objects, before, moment, dynamic, fetch)?;
+    let found = change_from_nothing(workers, objects, before, moment, dynamic, fetch)?;
     let Some(KeptChange { entries, rows }) = found else {
         return Ok(None);
     };
-    let rebased = rebased(alloc, table, rows.plus, fetch)?;
+    let rebased = rebased(workers.alloc, table, rows.plus, fetch)?;
     Ok(Some(regrouped(rebased, kept, entries)))
 }
 
 // The groups and rows that it has for its moment, changed.
-fn rebased_from_groups<F: Fetch>(
-    alloc: Global,
+fn rebased_from_groups<R: Threads + Sync, F: Fetch>(
+    workers: &Workers<'_, R>,
     objects: &[&StoredObject],
     before: &[Brought],
     moment: u64,
@@ -142,11 +147,11 @@ fn rebased_from_groups<F: Fetch>(
     ensures counts { Counts (F.faults fetch.old) (F.faults fetch.new) result }
 {
     let groups = kept.groups();
-    let found = change_of_groups(alloc, objects, before, moment, dynamic, groups, fetch)?;
+    let found = change_of_groups(workers, objects, before, moment, dynamic, groups, fetch)?;
     let Some(KeptChange { entries, rows }) = found else {
         return Ok(None);
     };
-    let rebased = rebased_with(alloc, table, &rows, fetch)?;
+    let rebased = rebased_with(workers.alloc, table, &rows, fetch)?;
     Ok(Some(regrouped(rebased, kept, entries)))
 }
 
@@ -170,8 +175,8 @@ fn regrouped(rebased: Rebased, kept: &Kept, entries: Vec<Entry>) -> Regrouped
 }
 
 // Of a table that stands for no moment, with keys of its Group.
-fn change_from_nothing<F: Fetch>(
-    alloc: Global,
+fn change_from_nothing<R: Threads + Sync, F: Fetch>(
+    workers: &Workers<'_, R>,
     objects: &[&StoredObject],
     before: &[Brought],
     moment: u64,
@@ -189,17 +194,18 @@ fn change_from_nothing<F: Fetch>(
     ensures goes { F.stays fetch.old fetch.new }
     ensures counts { Counts (F.faults fetch.old) (F.faults fetch.new) result }
 {
+    let alloc = workers.alloc;
     let bound = bound(alloc, objects, dynamic.query())?;
     let query = &bound.get().query;
     let held = sources_held(alloc, objects, before, moment, dynamic.reads())?;
     let sources = sources_of(alloc, &held)?;
-    kept_delta(alloc, query, &Groups::new(alloc), &sources, &[], fetch)
+    kept_delta(workers, query, &Groups::new(alloc), &sources, &[], fetch)
 }
 
 // From the moment that a table stands for, where some of its sources were brought to the other
 // one.
-fn change_of_groups<F: Fetch>(
-    alloc: Global,
+fn change_of_groups<R: Threads + Sync, F: Fetch>(
+    workers: &Workers<'_, R>,
     objects: &[&StoredObject],
     before: &[Brought],
     moment: u64,
@@ -222,12 +228,12 @@ fn change_of_groups<F: Fetch>(
     ensures goes { F.stays fetch.old fetch.new }
     ensures counts { Counts (F.faults fetch.old) (F.faults fetch.new) result }
 {
-    let bound = bound(alloc, objects, dynamic.query())?;
+    let bound = bound(workers.alloc, objects, dynamic.query())?;
     let query = &bound.get().query;
     let from = dynamic.state().moment;
     if from <= moment && !some_brought(before, dynamic.reads()) {
         return kept_by_moves(
-            alloc,
+            workers,
             objects,
             query,
             groups,
@@ -238,7 +244,7 @@ fn change_of_groups<F: Fetch>(
         );
     }
     kept_by_sources(
-        alloc,
+        workers,
         objects,
         before,
         query,
@@ -251,8 +257,8 @@ fn change_of_groups<F: Fetch>(
 }
 
 // Where none of the sources is brought: from what came in them and what went.
-fn kept_by_moves<F: Fetch>(
-    alloc: Global,
+fn kept_by_moves<R: Threads + Sync, F: Fetch>(
+    workers: &Workers<'_, R>,
     objects: &[&StoredObject],
     query: &Query,
     groups: &Groups,
@@ -276,15 +282,16 @@ fn kept_by_moves<F: Fetch>(
     ensures goes { F.stays fetch.old fetch.new }
     ensures counts { Counts (F.faults fetch.old) (F.faults fetch.new) result }
 {
+    let alloc = workers.alloc;
     let moved = sources_moved(alloc, objects, from, to, ids)?;
     let came = sources_of(alloc, &moved.came)?;
     let went = sources_of(alloc, &moved.went)?;
-    kept_delta(alloc, query, groups, &came, &went, fetch)
+    kept_delta(workers, query, groups, &came, &went, fetch)
 }
 
 // From what the sources held before and what they hold now.
-fn kept_by_sources<F: Fetch>(
-    alloc: Global,
+fn kept_by_sources<R: Threads + Sync, F: Fetch>(
+    workers: &Workers<'_, R>,
     objects: &[&StoredObject],
     before: &[Brought],
     query: &Query,
@@ -309,9 +316,10 @@ fn kept_by_sources<F: Fetch>(
     ensures goes { F.stays fetch.old fetch.new }
     ensures counts { Counts (F.faults fetch.old) (F.faults fetch.new) result }
 {
+    let alloc = workers.alloc;
     let stood = sources_held(alloc, objects, &[], from, ids)?;
     let held = sources_held(alloc, objects, before, to, ids)?;
     let old = sources_of(alloc, &stood)?;
     let new = sources_of(alloc, &held)?;
-    kept_delta_between(alloc, query, groups, &old, &new, fetch)
+    kept_delta_between(workers, query, groups, &old, &new, fetch)
 }

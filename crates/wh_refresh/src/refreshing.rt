@@ -20,11 +20,13 @@ use crate::limits::number_refusal;
 use crate::objects::{dynamic_at, is_live_at, name_at, watched};
 use crate::writing::{changes, lines};
 use std::alloc::{AllocError, Global};
+use std::thread::Threads;
 use wh_catalog::StoredObject;
 use wh_dynamic::{brought, upstream};
 use wh_fetch::{Fetch, FetchFault};
 use wh_record::Change;
 use wh_reply::{Refreshed, Refusal};
+use wh_workers::Workers;
 
 /// Who asks for a refresh: a statement is refused where a table is suspended.
 #[derive(Clone, Copy, Debug, PartialEq, Eq)]
@@ -43,8 +45,8 @@ pub enum Refreshing {
 
 /// The refresh of the table of an id to a moment, with all of its upstream that is below it.
 /// `objects` are all objects by their ids.
-pub fn refresh<F: Fetch>(
-    alloc: Global,
+pub fn refresh<R: Threads + Sync, F: Fetch>(
+    workers: &Workers<'_, R>,
     objects: &[&StoredObject],
     asked: Asked,
     id: u32,
@@ -68,6 +70,7 @@ pub fn refresh<F: Fetch>(
     ensures goes { F.stays fetch.old fetch.new }
     ensures counts { Counts (F.faults fetch.old) (F.faults fetch.new) result }
 {
+    let alloc = workers.alloc;
     let all = watched(alloc, objects)?;
     let mut ids = upstream(alloc, &all, id)?;
     ids.push(id)?;
@@ -78,7 +81,7 @@ pub fn refresh<F: Fetch>(
         return Ok(Refreshing::Fails(why));
     }
     let ids = brought(alloc, &all, id, moment)?;
-    let Some(all) = bring_all(alloc, objects, moment, &ids, fetch)? else {
+    let Some(all) = bring_all(workers, objects, moment, &ids, fetch)? else {
         return Ok(Refreshing::Fails(Refusal::NumberOutOfRange));
     };
     if let Some(why) = number_refusal(objects, &all) {

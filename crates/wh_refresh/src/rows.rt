@@ -25,6 +25,7 @@ use crate::groups::rebased_by_groups;
 use crate::rebase::{Rebased, rebase};
 use crate::sources::{sources_held, sources_of};
 use std::alloc::Global;
+use std::thread::Threads;
 use wh_bag::Bag;
 use wh_catalog::{StoredObject, StoredTable};
 use wh_dynamic::{Dynamic, GroupsChange};
@@ -32,6 +33,7 @@ use wh_fetch::{Fetch, FetchFault};
 use wh_filed::fetch_all;
 use wh_reply::RefreshAction;
 use wh_table::by_rows;
+use wh_workers::Workers;
 
 /// The edits of a table's rows, and what becomes of its groups, where they are kept.
 #[derive(Debug, Drop)]
@@ -42,8 +44,8 @@ pub(crate) struct Regrouped {
 
 /// By its action; None where its query is undefined. One that is brought by a change has the rows
 /// of its query for the moment that it stands for.
-pub(crate) fn rebased_by<F: Fetch>(
-    alloc: Global,
+pub(crate) fn rebased_by<R: Threads + Sync, F: Fetch>(
+    workers: &Workers<'_, R>,
     objects: &[&StoredObject],
     before: &[Brought],
     moment: u64,
@@ -73,10 +75,12 @@ pub(crate) fn rebased_by<F: Fetch>(
     ensures counts { Counts (F.faults fetch.old) (F.faults fetch.new) result }
 {
     if let Some(kept) = dynamic.kept() {
-        return rebased_by_groups(alloc, objects, before, moment, dynamic, kept, table, fetch);
+        return rebased_by_groups(
+            workers, objects, before, moment, dynamic, kept, table, fetch,
+        );
     }
     let found = rebased_by_action(
-        alloc, objects, before, moment, dynamic, table, action, fetch,
+        workers, objects, before, moment, dynamic, table, action, fetch,
     )?;
     let Some(rebased) = found else {
         return Ok(None);
@@ -88,8 +92,8 @@ pub(crate) fn rebased_by<F: Fetch>(
 }
 
 // By its rows alone.
-fn rebased_by_action<F: Fetch>(
-    alloc: Global,
+fn rebased_by_action<R: Threads + Sync, F: Fetch>(
+    workers: &Workers<'_, R>,
     objects: &[&StoredObject],
     before: &[Brought],
     moment: u64,
@@ -122,17 +126,17 @@ fn rebased_by_action<F: Fetch>(
 {
     match action {
         RefreshAction::Incremental => {
-            rebased_by_change(alloc, objects, before, moment, dynamic, table, fetch)
+            rebased_by_change(workers, objects, before, moment, dynamic, table, fetch)
         }
         RefreshAction::Full | RefreshAction::NoData => {
-            rebased_by_query(alloc, objects, before, moment, dynamic, table, fetch)
+            rebased_by_query(workers, objects, before, moment, dynamic, table, fetch)
         }
     }
 }
 
 // From what its query gives.
-fn rebased_by_query<F: Fetch>(
-    alloc: Global,
+fn rebased_by_query<R: Threads + Sync, F: Fetch>(
+    workers: &Workers<'_, R>,
     objects: &[&StoredObject],
     before: &[Brought],
     moment: u64,
@@ -156,16 +160,16 @@ fn rebased_by_query<F: Fetch>(
     ensures goes { F.stays fetch.old fetch.new }
     ensures counts { Counts (F.faults fetch.old) (F.faults fetch.new) result }
 {
-    let Some(rows) = rows_by_query(alloc, objects, before, moment, dynamic, fetch)? else {
+    let Some(rows) = rows_by_query(workers, objects, before, moment, dynamic, fetch)? else {
         return Ok(None);
     };
-    let rebased = rebased(alloc, table, rows, fetch)?;
+    let rebased = rebased(workers.alloc, table, rows, fetch)?;
     Ok(Some(rebased))
 }
 
 // From what came and went in its sources since the moment for which it has the rows of its query.
-fn rebased_by_change<F: Fetch>(
-    alloc: Global,
+fn rebased_by_change<R: Threads + Sync, F: Fetch>(
+    workers: &Workers<'_, R>,
     objects: &[&StoredObject],
     before: &[Brought],
     moment: u64,
@@ -196,16 +200,16 @@ fn rebased_by_change<F: Fetch>(
     ensures goes { F.stays fetch.old fetch.new }
     ensures counts { Counts (F.faults fetch.old) (F.faults fetch.new) result }
 {
-    let Some(change) = change_of_rows(alloc, objects, before, moment, dynamic, fetch)? else {
+    let Some(change) = change_of_rows(workers, objects, before, moment, dynamic, fetch)? else {
         return Ok(None);
     };
-    let rebased = rebased_with(alloc, table, &change, fetch)?;
+    let rebased = rebased_with(workers.alloc, table, &change, fetch)?;
     Ok(Some(rebased))
 }
 
 // What its query gives, or None where that is undefined.
-fn rows_by_query<F: Fetch>(
-    alloc: Global,
+fn rows_by_query<R: Threads + Sync, F: Fetch>(
+    workers: &Workers<'_, R>,
     objects: &[&StoredObject],
     before: &[Brought],
     moment: u64,
@@ -224,9 +228,9 @@ fn rows_by_query<F: Fetch>(
     ensures goes { F.stays fetch.old fetch.new }
     ensures counts { Counts (F.faults fetch.old) (F.faults fetch.new) result }
 {
-    let held = sources_held(alloc, objects, before, moment, dynamic.reads())?;
-    let sources = sources_of(alloc, &held)?;
-    evaluated(alloc, objects, dynamic.query(), &sources, fetch)
+    let held = sources_held(workers.alloc, objects, before, moment, dynamic.reads())?;
+    let sources = sources_of(workers.alloc, &held)?;
+    evaluated(workers, objects, dynamic.query(), &sources, fetch)
 }
 
 /// The edits that bring the rows of a table to these. Its partitions are given back.

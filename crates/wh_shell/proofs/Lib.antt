@@ -18,3 +18,4 @@ pub mod Ending
 pub mod Opened
 pub mod Unopened
 pub mod Idle
+pub mod WorkerLaws

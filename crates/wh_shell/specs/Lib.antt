@@ -15,5 +15,6 @@ pub mod Run
 pub mod Serving
 pub mod Ticking
 pub mod Timing
+pub mod Workers
 pub mod World
 pub mod Writing

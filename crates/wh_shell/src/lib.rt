@@ -12,7 +12,7 @@ mod timing;
 mod writing;
 
 pub use fault::Fault;
-pub use laws::script_fixes_events;
+pub use laws::{script_fixes_events, workers_change_no_answer};
 pub use running::{run, run_within};
 pub use status::Status;
 pub use terms::Terms;

@@ -9,18 +9,19 @@ ghost use Rattle.wh_machine.specs.Ticks.{body_bound};
 ghost use Rattle.wh_decide.specs.Sight.{machine_in, Comes, IsReady, IsShown};
 
 use crate::live::live_objects;
-use std::alloc::Global;
+use std::thread::Threads;
 use wh_ast::Dml;
 use wh_bind::BindFault;
 use wh_decide::{Decision, Sight, change_rows, refusal};
 use wh_dml_bind::bind_change;
 use wh_fetch::{DiskFetch, FetchFault};
 use wh_naming::Named;
+use wh_workers::Workers;
 use wh_world::Disk;
 
 /// What a statement comes to in session 0.
-pub(crate) fn carried_out<D: Disk>(
-    alloc: Global,
+pub(crate) fn carried_out<R: Threads + Sync, D: Disk>(
+    workers: &Workers<'_, R>,
     sight: &Sight<'_>,
     body: &Dml,
     fetch: &mut DiskFetch<D>,
@@ -42,13 +43,13 @@ pub(crate) fn carried_out<D: Disk>(
     if sight.sessions.number(sight.session).is_some() {
         return Err(FetchFault::OutOfMemory);
     }
-    let names = live_objects(alloc, sight.catalog)?;
-    change_named(alloc, sight, &names, body, fetch)
+    let names = live_objects(workers.alloc, sight.catalog)?;
+    change_named(workers, sight, &names, body, fetch)
 }
 
 // By the objects that it may name.
-fn change_named<D: Disk>(
-    alloc: Global,
+fn change_named<R: Threads + Sync, D: Disk>(
+    workers: &Workers<'_, R>,
     sight: &Sight<'_>,
     names: &[Named<'_>],
     body: &Dml,
@@ -65,8 +66,8 @@ fn change_named<D: Disk>(
     ensures goes { GoesOn D.Disk fetch.old fetch.new }
     ensures counts { Counts (faults_of D.Disk fetch.old) (faults_of D.Disk fetch.new) result }
 {
-    match bind_change(alloc, names, body) {
-        Ok(bound) => change_rows(alloc, sight, &bound, fetch),
+    match bind_change(workers.alloc, names, body) {
+        Ok(bound) => change_rows(workers, sight, &bound, fetch),
         Err(BindFault::Failing(failing)) => Ok(Decision::Refuse(refusal(failing))),
         Err(BindFault::OutOfMemory) => Err(FetchFault::OutOfMemory),
     }

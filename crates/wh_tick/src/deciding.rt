@@ -26,17 +26,19 @@ use crate::outcome::idle;
 use crate::running::run_task;
 use crate::starting::start_run;
 use std::alloc::{AllocError, Global};
+use std::thread::Threads;
 use wh_catalog::Catalog;
 use wh_decide::{Decision, Event, Sight, decide_command, scheduled_refresh};
 use wh_dynamic::due_table;
 use wh_fetch::{DiskFetch, FetchFault};
 use wh_task::{Action, next_action};
 use wh_txn::Sessions;
+use wh_workers::Workers;
 use wh_world::Disk;
 
 /// What an event comes to at a stamp.
-pub fn decide<D: Disk>(
-    alloc: Global,
+pub fn decide<R: Threads + Sync, D: Disk>(
+    workers: &Workers<'_, R>,
     catalog: &Catalog,
     sessions: &Sessions,
     stamp: u64,
@@ -77,7 +79,7 @@ pub fn decide<D: Disk>(
                 session: *session,
                 stamp,
             };
-            decide_command(alloc, &sight, text.as_slice(), fetch)
+            decide_command(workers, &sight, text.as_slice(), fetch)
         }
         Event::Tick { .. } => {
             let sight = Sight {
@@ -86,15 +88,15 @@ pub fn decide<D: Disk>(
                 session: 0,
                 stamp,
             };
-            decide_tick(alloc, &sight, fetch)
+            decide_tick(workers, &sight, fetch)
         }
     }
 }
 
 // What a tick comes to.
 #[tactic(auto, unfolding(wh_machine::specs::Ticks::ticked))]
-fn decide_tick<D: Disk>(
-    alloc: Global,
+fn decide_tick<R: Threads + Sync, D: Disk>(
+    workers: &Workers<'_, R>,
     sight: &Sight<'_>,
     fetch: &mut DiskFetch<D>,
 ) -> Result<Decision, FetchFault>
@@ -112,16 +114,16 @@ fn decide_tick<D: Disk>(
     ensures goes { GoesOn D.Disk fetch.old fetch.new }
     ensures counts { Counts (faults_of D.Disk fetch.old) (faults_of D.Disk fetch.new) result }
 {
-    match action(alloc, sight)? {
-        Action::RunTask { root, task } => run_task(alloc, sight, root, task, fetch),
-        Action::StartRun { root } => Ok(start_run(alloc, sight, root)?),
-        Action::Nothing => refresh_due(alloc, sight, fetch),
+    match action(workers.alloc, sight)? {
+        Action::RunTask { root, task } => run_task(workers, sight, root, task, fetch),
+        Action::StartRun { root } => Ok(start_run(workers.alloc, sight, root)?),
+        Action::Nothing => refresh_due(workers, sight, fetch),
     }
 }
 
 // The refresh of the dynamic table that is due first, if one is.
-fn refresh_due<D: Disk>(
-    alloc: Global,
+fn refresh_due<R: Threads + Sync, D: Disk>(
+    workers: &Workers<'_, R>,
     sight: &Sight<'_>,
     fetch: &mut DiskFetch<D>,
 ) -> Result<Decision, FetchFault>
@@ -139,9 +141,9 @@ fn refresh_due<D: Disk>(
     ensures goes { GoesOn D.Disk fetch.old fetch.new }
     ensures counts { Counts (faults_of D.Disk fetch.old) (faults_of D.Disk fetch.new) result }
 {
-    let all = sight.catalog.watched(alloc)?;
-    match due_table(alloc, &all, sight.stamp)? {
-        Some((id, target)) => scheduled_refresh(alloc, sight, id, target, fetch),
+    let all = sight.catalog.watched(workers.alloc)?;
+    match due_table(workers.alloc, &all, sight.stamp)? {
+        Some((id, target)) => scheduled_refresh(workers, sight, id, target, fetch),
         None => Ok(idle(sight)),
     }
 }

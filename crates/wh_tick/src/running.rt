@@ -26,6 +26,7 @@ use crate::lookups::{live_tasks, task_at};
 use crate::outcome::{changes_in, committed, counts_in, idle};
 use crate::telling::aftermath;
 use std::alloc::{AllocError, Global};
+use std::thread::Threads;
 use wh_ast::Dml;
 use wh_decide::{Decision, Sight, name_of};
 use wh_fetch::{DiskFetch, FetchFault};
@@ -33,6 +34,7 @@ use wh_record::Change;
 use wh_reply::{Aftermath, Refusal, Reply, RowCounts};
 use wh_task::{Ending, Task, TaskBody};
 use wh_value::Text;
+use wh_workers::Workers;
 use wh_world::Disk;
 
 /// The turn of a task in the run of its root.
@@ -46,8 +48,8 @@ pub(crate) struct Turn<'a> {
 
 /// What the run of a task comes to.
 #[tactic(auto, unfolding(wh_machine::specs::Ticks::run_task))]
-pub(crate) fn run_task<D: Disk>(
-    alloc: Global,
+pub(crate) fn run_task<R: Threads + Sync, D: Disk>(
+    workers: &Workers<'_, R>,
     sight: &Sight<'_>,
     root: u32,
     task: u32,
@@ -72,12 +74,12 @@ pub(crate) fn run_task<D: Disk>(
         return Ok(idle(sight));
     };
     let turn = Turn { root, graph, task };
-    run_by(alloc, sight, &turn, &ready.runs, fetch)
+    run_by(workers, sight, &turn, &ready.runs, fetch)
 }
 
 // By its condition.
-fn run_by<D: Disk>(
-    alloc: Global,
+fn run_by<R: Threads + Sync, D: Disk>(
+    workers: &Workers<'_, R>,
     sight: &Sight<'_>,
     turn: &Turn<'_>,
     runs: &TaskBody,
@@ -96,16 +98,17 @@ fn run_by<D: Disk>(
     ensures goes { GoesOn D.Disk fetch.old fetch.new }
     ensures counts { Counts (faults_of D.Disk fetch.old) (faults_of D.Disk fetch.new) result }
 {
+    let alloc = workers.alloc;
     match task_verdict(alloc, sight, &runs.when, fetch)? {
         Verdict::Fails(why) => Ok(fails(alloc, sight, turn, why)?),
         Verdict::HoldsNot => Ok(skips(alloc, sight, turn)?),
-        Verdict::Holds => carries(alloc, sight, turn, runs.body.get(), fetch),
+        Verdict::Holds => carries(workers, sight, turn, runs.body.get(), fetch),
     }
 }
 
 // By its statement. Where memory is wanted or the disk fails the task hasn't run.
-fn carries<D: Disk>(
-    alloc: Global,
+fn carries<R: Threads + Sync, D: Disk>(
+    workers: &Workers<'_, R>,
     sight: &Sight<'_>,
     turn: &Turn<'_>,
     body: &Dml,
@@ -125,8 +128,8 @@ fn carries<D: Disk>(
     ensures goes { GoesOn D.Disk fetch.old fetch.new }
     ensures counts { Counts (faults_of D.Disk fetch.old) (faults_of D.Disk fetch.new) result }
 {
-    let decision = carried_out(alloc, sight, body, fetch)?;
-    Ok(ends_by(alloc, sight, turn, decision)?)
+    let decision = carried_out(workers, sight, body, fetch)?;
+    Ok(ends_by(workers.alloc, sight, turn, decision)?)
 }
 
 // By what its statement comes to.

@@ -5,6 +5,8 @@ mod parts;
 mod pieces;
 #[cfg(test)]
 mod tests;
+mod workers;
 
 pub use parts::map_parts;
 pub use pieces::map_pieces;
+pub use workers::Workers;

@@ -1,35 +1,31 @@
 //! Partitions gone over by several workers.
-ghost use Rattle.std.specs.Prelude.{◌≡◌, ◌<◌, Some, IfOk};
+ghost use Rattle.std.specs.Prelude.{◌≡◌, Some, IfOk};
 ghost use Rattle.std.specs.List.{AllZip};
 ghost use Rattle.std.specs.Fn.{FnReturnsAt};
 ghost use Rattle.std.specs.Arc.{arc_value};
 ghost use Rattle.wh_workers.specs.Joined.{joined_of};
 
-use crate::map_pieces;
+use crate::{Workers, map_pieces};
 use std::alloc::{AllocError, Global};
 use std::sync::Arc;
 use std::thread::Threads;
 use wh_part::Partition;
 
 /// `f`'s answer of each partition, in the list's order, whatever the worker count.
-pub fn map_parts<T: Send + Drop, F: Fn(&Partition) -> T + Sync>(
-    rt: &(impl Threads + Sync),
-    alloc: Global,
-    workers: u32,
+pub fn map_parts<R: Threads + Sync, T: Send + Drop, F: Fn(&Partition) -> T + Sync>(
+    workers: &Workers<'_, R>,
     parts: &[Arc<Partition>],
     f: &F,
 ) -> Result<Vec<T>, AllocError>
-    requires some { 0 < workers }
-    requires callable { F.IsAlwaysCallable f.now }
+    requires { F.IsAlwaysCallable f.now }
     ensures { IfOk result (λ answers. AllZip
         (λ part answer. FnReturnsAt F.Fn f.now (arc_value part) answer) parts.now answers.items) }
 {
-    if workers == 1 || parts.len() < 2 {
+    let alloc = workers.alloc;
+    if workers.count == 1 || parts.len() < 2 {
         return in_turn(alloc, parts, f);
     }
     let pieces = map_pieces(
-        rt,
-        alloc,
         workers,
         parts,
         &|piece: &[Arc<Partition>]| -> Result<Vec<T>, AllocError>

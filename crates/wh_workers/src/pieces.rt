@@ -1,34 +1,33 @@
 //! A list cut into pieces for several workers.
-ghost use Rattle.std.specs.Prelude.{◌<◌, IfOk};
+ghost use Rattle.std.specs.Prelude.{IfOk};
 ghost use Rattle.std.specs.Fn.{FnReturnsAt};
 ghost use Rattle.wh_workers.specs.Pieces.{PiecesOf};
 
-use std::alloc::{AllocError, Global};
+use crate::Workers;
+use std::alloc::AllocError;
 use std::thread;
 use std::thread::Threads;
 
 /// What `f` answers of pieces of consecutive items, of which there are at most as many as workers,
 /// in the list's order.
-pub fn map_pieces<X: Sync, T: Send + Drop, F: Fn(&[X]) -> T + Sync>(
-    rt: &(impl Threads + Sync),
-    alloc: Global,
-    workers: u32,
+pub fn map_pieces<R: Threads + Sync, X: Sync, T: Send + Drop, F: Fn(&[X]) -> T + Sync>(
+    workers: &Workers<'_, R>,
     items: &[X],
     f: &F,
 ) -> Result<Vec<T>, AllocError>
-    requires some { 0 < workers }
-    requires callable { F.IsAlwaysCallable f.now }
-    ensures { IfOk result (λ answers. PiecesOf workers items.now
+    requires { F.IsAlwaysCallable f.now }
+    ensures { IfOk result (λ answers. PiecesOf workers.now.count items.now
         (λ piece answer. FnReturnsAt F.Fn f.now piece answer) answers.items) }
 {
-    if workers == 1 || items.len() < 2 {
+    let alloc = workers.alloc;
+    if workers.count == 1 || items.len() < 2 {
         let mut answers = Vec::with_capacity(alloc, 1)?;
         answers.push(f(items))?;
         return Ok(answers);
     }
-    let size = items.len().div_ceil(workers as usize);
+    let size = items.len().div_ceil(workers.count as usize);
     thread::map_chunks(
-        rt,
+        workers.rt,
         alloc,
         items,
         size,

@@ -1,6 +1,6 @@
 //! Two workers at once, and one list's answers for each worker count.
 
-use crate::{map_parts, map_pieces};
+use crate::{Workers, map_parts, map_pieces};
 use std::alloc::{AllocError, Global};
 use std::process::Abort;
 use std::sync::Arc;
@@ -40,9 +40,11 @@ fn two_workers_are_at_work_at_once(rt: HostRuntime) {
     let parts = parts_of(&rt, rt.alloc(), 2);
     let (first, second) = (AtomicBool::new(false), AtomicBool::new(false));
     let met = map_parts(
-        &rt,
-        rt.alloc(),
-        2,
+        &Workers {
+            rt: &rt,
+            alloc: rt.alloc(),
+            count: 2,
+        },
         parts.as_slice(),
         &|part: &Partition| {
             if part.number() == 0 {
@@ -72,21 +74,22 @@ fn numbers_of(rt: &impl Abort, alloc: Global, count: u64) -> Vec<u64> {
 // The numbers of partitions, and those of pieces side by side, are in order.
 fn assert_in_order(rt: &(impl Abort + Threads + Sync), alloc: Global, workers: u32, count: u64) {
     assert!(rt; workers > 0);
+    let crew = Workers {
+        rt,
+        alloc,
+        count: workers,
+    };
     let numbers = numbers_of(rt, alloc, count);
     let parts = parts_of(rt, alloc, count);
     let told = map_parts(
-        rt,
-        alloc,
-        workers,
+        &crew,
         parts.as_slice(),
         &|part: &Partition| { part.number() },
     )
     .expect(rt, "memory");
     assert_eq!(rt; told, numbers, "{count} partitions, {workers} workers");
     let pieces = map_pieces(
-        rt,
-        alloc,
-        workers,
+        &crew,
         numbers.as_slice(),
         &|piece: &[u64]| -> Result<Vec<u64>, AllocError> { piece.to_vec(alloc) },
     )

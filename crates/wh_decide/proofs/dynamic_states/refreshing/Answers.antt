@@ -21,8 +21,10 @@ use Rattle.wh_decide.proofs.RefreshAskLaws.{to_bring}
 use Rattle.wh_decide.proofs.dynamic_states.refreshing.Goals as goal
 
 pub refresh-requires : goal.refresh-requires
-refresh-requires g c =
-    all_covered (Covers g.D.Disk c.args.fetch.now) (filed_at_objects c.deref.result.now) (λ part. c.requires)
+refresh-requires g c = (
+  c.type_bounds.sync-R,
+  all_covered (Covers g.D.Disk c.args.fetch.now) (filed_at_objects c.deref.result.now) (λ part. c.requires),
+)
 
 pub returns-clause-refreshes : goal.returns-clause-refreshes
 returns-clause-refreshes g c = λ shown sound.

@@ -53,14 +53,14 @@ defined_as g c =
     (sym (ap (option_map refusal_view) c.in_default.is) ∙ c.definition_refusal.ensures)
 
 pub new_dynamic-requires-clause-fits : goal.new_dynamic-requires-clause-fits
-new_dynamic-requires-clause-fits g c =
+new_dynamic-requires-clause-fits g c κs bounds =
     let kept = within g (goal.at.new_dynamic-requires-clause-fits g c).In_default in record {
       lag = kept.lag;
       columns = omega (arith, kept.columns, length-map c.args.table.now.columns.items column_of);
     }
 
 pub new_dynamic-requires-clause-room : goal.new_dynamic-requires-clause-room
-new_dynamic-requires-clause-room g c =
+new_dynamic-requires-clause-room g c κs bounds =
     let kept = within g (goal.at.new_dynamic-requires-clause-room g c).In_default in
     omega (arith, kept.room, count_is c.args.sight.now.catalog.now)
 

@@ -24,8 +24,10 @@ of_each L M T (Ok found) told = told
 of_each L M T (Err fault) told = tt
 
 pub refresh-requires : goal.refresh-requires
-refresh-requires g c =
-    all_covered (Covers g.D.Disk c.args.fetch.now) (filed_at_objects c.deref.result.now) (λ part. c.requires.right)
+refresh-requires g c = (
+  c.type_bounds.sync-R,
+  all_covered (Covers g.D.Disk c.args.fetch.now) (filed_at_objects c.deref.result.now) (λ part. c.requires.right),
+)
 
 pub returns-clause-refreshes : goal.returns-clause-refreshes
 returns-clause-refreshes g c = λ shown sound.

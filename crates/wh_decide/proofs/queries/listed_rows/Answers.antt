@@ -17,9 +17,11 @@ use Rattle.wh_decide.proofs.AskLemmas.{streams_all, none_filed, asked_of}
 use Rattle.wh_decide.proofs.queries.listed_rows.Goals as goal
 
 pub answered_in_order-requires : goal.answered_in_order-requires
-answered_in_order-requires g c =
-    all_covered (Covers g.D.Disk c.sources_seen.new.fetch) (filed_in c.deref-5.result.now)
-    (λ part. c.in_ok-seen.ensures.goes.right c.requires)
+answered_in_order-requires g c = (
+  c.type_bounds.sync-R,
+  all_covered (Covers g.D.Disk c.sources_seen.new.fetch) (filed_in c.deref-5.result.now)
+      (λ part. c.in_ok-seen.ensures.goes.right c.requires),
+)
 
 pub returns-clause-listed : goal.returns-clause-listed
 returns-clause-listed g c = λ shown.
@@ -45,11 +47,13 @@ returns-clause-sound g c = λ shown.
 -- ---- over streams alone
 
 pub listed_at_hand-requires : goal.listed_at_hand-requires
-listed_at_hand-requires g c =
-    ap filed_in c.deref-then-are_streams.ensures.value ∙ c.in_ok-sources.ensures.filed
-    ∙ ap filed_seen c.deref-2.ensures.value
-    ∙ none_filed c.in_ok-seen.seen.items
-    (ap (list_all is_stream) (sym c.deref-3.ensures.value) ∙ sym c.are_streams.ensures ∙ c.if-are_streams.true)
+listed_at_hand-requires g c = (
+  c.type_bounds.sync-R,
+  ap filed_in c.deref-then-are_streams.ensures.value ∙ c.in_ok-sources.ensures.filed
+      ∙ ap filed_seen c.deref-2.ensures.value
+      ∙ none_filed c.in_ok-seen.seen.items
+      (ap (list_all is_stream) (sym c.deref-3.ensures.value) ∙ sym c.are_streams.ensures ∙ c.if-are_streams.true),
+)
 
 pub returns-then-are_streams-clause-listed : goal.returns-then-are_streams-clause-listed
 returns-then-are_streams-clause-listed g c = λ shown.

@@ -9,13 +9,13 @@ use Rattle.wh_delta.proofs.AskedLaws.{between_moved}
 use Rattle.wh_delta.proofs.change.delta.Goals as goal
 
 pub moves_of-requires-clause-comes : goal.moves_of-requires-clause-comes
-moves_of-requires-clause-comes g c =
+moves_of-requires-clause-comes g c κs bounds =
     moved_filed (IsCovered (g.F.Fetch.covers c.args.fetch.now)) c.deref-3.result.now _
     (held_views _ _ _ _ _ c.deref-3.ensures.value c.in_ok-comes.ensures c.deref.ensures.value c.in_ok-came.ensures)
     c.requires.comes
 
 pub moves_of-requires-clause-goes : goal.moves_of-requires-clause-goes
-moves_of-requires-clause-goes g c =
+moves_of-requires-clause-goes g c κs bounds =
     moved_filed (IsCovered (g.F.Fetch.covers c.args.fetch.now)) c.deref-4.result.now _
     (held_views _ _ _ _ _ c.deref-4.ensures.value c.in_ok-goes.ensures c.deref-2.ensures.value c.in_ok-gone.ensures)
     c.requires.goes

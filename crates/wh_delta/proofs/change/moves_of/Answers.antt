@@ -9,11 +9,14 @@ returns-then-is_linear-clause-change g c = λ comes goes stays.
     (sym c.is_linear.ensures ∙ c.if-is_linear.true) (c.net_over.ensures.net comes goes)
 
 pub carried-requires : goal.carried-requires
-carried-requires g c = record {
-  old = c.requires.stays (sym c.is_linear.ensures ∙ c.if-is_linear.false);
-  comes = c.requires.comes;
-  goes = c.requires.goes;
-}
+carried-requires g c = (
+  c.type_bounds.sync-R,
+  record {
+    old = c.requires.stays (sym c.is_linear.ensures ∙ c.if-is_linear.false);
+    comes = c.requires.comes;
+    goes = c.requires.goes;
+  },
+)
 
 pub returns-clause-change : goal.returns-clause-change
 returns-clause-change g c = λ comes goes stays. c.carried.ensures.change (record {

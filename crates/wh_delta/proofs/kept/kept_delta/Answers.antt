@@ -20,8 +20,11 @@ use Rattle.wh_delta.proofs.kept.kept_delta.Goals.{After-deref-2}
 use Rattle.wh_delta.proofs.kept.kept_delta.Goals as goal
 
 pub rows_of-requires-2 : goal.rows_of-requires-2
-rows_of-requires-2 g c = still_covered _ _ (filed_in c.args.goes.now)
-    (λ part. g.met.F.Fetch.covers_on _ _ part c.in_ok-comes.ensures.goes) c.requires.goes
+rows_of-requires-2 g c = (
+  c.type_bounds.sync-R,
+  still_covered _ _ (filed_in c.args.goes.now)
+      (λ part. g.met.F.Fetch.covers_on _ _ part c.in_ok-comes.ensures.goes) c.requires.goes,
+)
 
 pub returns-in_default-2-clause-change : goal.returns-in_default-2-clause-change
 returns-in_default-2-clause-change g c = λ came went old.

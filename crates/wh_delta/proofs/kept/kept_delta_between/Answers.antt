@@ -29,12 +29,12 @@ module _ (g : Over) (c : After-deref-4 g) where
   goes_shown = moved_filed (IsShownBy (g.F.Fetch.contents c.args.fetch.now)) c.deref-4.result.now _ gone
 
 pub kept_delta-requires-clause-comes : goal.kept_delta-requires-clause-comes
-kept_delta-requires-clause-comes g c =
+kept_delta-requires-clause-comes g c κs bounds =
     let after = (goal.at.kept_delta-requires-clause-comes g c).After-deref-4 in
     moved_filed (IsCovered (g.F.Fetch.covers c.args.fetch.now)) c.deref-3.result.now _ (came g after) c.requires.comes
 
 pub kept_delta-requires-clause-goes : goal.kept_delta-requires-clause-goes
-kept_delta-requires-clause-goes g c =
+kept_delta-requires-clause-goes g c κs bounds =
     let after = (goal.at.kept_delta-requires-clause-goes g c).After-deref-4 in
     moved_filed (IsCovered (g.F.Fetch.covers c.args.fetch.now)) c.deref-4.result.now _ (gone g after) c.requires.goes
 

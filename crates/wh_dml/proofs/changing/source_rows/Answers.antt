@@ -5,8 +5,10 @@ use Rattle.wh_exec.specs.Source.{filed_in}
 use Rattle.wh_dml.proofs.changing.source_rows.Goals as goal
 
 pub answered_in_order-requires : goal.answered_in_order-requires
-answered_in_order-requires g c =
-    all_covered (Covers g.D.Disk c.args.fetch.now) (filed_in c.args.sources.now) (λ part. c.requires)
+answered_in_order-requires g c = (
+  c.type_bounds.sync-R,
+  all_covered (Covers g.D.Disk c.args.fetch.now) (filed_in c.args.sources.now) (λ part. c.requires),
+)
 
 pub returns-in-InsertQuery-clause-rows : goal.returns-in-InsertQuery-clause-rows
 returns-in-InsertQuery-clause-rows g c all =

@@ -4,7 +4,7 @@ use Rattle.wh_exec.proofs.PartLaws.{step_back, stops_back}
 use Rattle.wh_exec.proofs.pouring.walked.Goals as goal
 
 pub loop-ahead-preserved : goal.loop-ahead-preserved
-loop-ahead-preserved c =
+loop-ahead-preserved g c =
     let at = c.loop-ahead in
     let next : at.ahead - 1 + 1 ≡ at.ahead = omega arith in
     let within : at.ahead - 1 < length c.args.steps.now = omega arith in
@@ -15,7 +15,7 @@ loop-ahead-preserved c =
     }
 
 pub returns-in_err-found : goal.returns-in_err-found
-returns-in_err-found c =
+returns-in_err-found g c =
     let at = c.loop-ahead in
     let next : at.ahead - 1 + 1 ≡ at.ahead = omega arith in
     let within : at.ahead - 1 < length c.args.steps.now = omega arith in

@@ -5,10 +5,10 @@ use Rattle.wh_exec.specs.Step.{through}
 use Rattle.wh_exec.proofs.pouring.walked.Given as goal
 
 abbrev pub decreases-loop-ahead : goal.decreases-loop-ahead
-decreases-loop-ahead l = l.ahead
+decreases-loop-ahead g l = l.ahead
 
 abbrev pub invariant-loop-ahead : goal.invariant-loop-ahead
-invariant-loop-ahead l = record {
+invariant-loop-ahead g l = record {
   within : l.ahead ≤ length l.steps;
   left : through (take l.ahead l.steps) (Some (bag_of (rows_in l.found.items)))
       ≡ through l.steps (Some (bag_of (rows_in l.initial.found.items)));

@@ -45,10 +45,12 @@ returns-in-None-clause-feeds g c all =
 
 pub scan_source-requires : goal.scan_source-requires
 scan_source-requires g c =
-    let within : c.args.source < length c.args.sources.now = search rules in
-    all_there (IsCovered (g.F.Fetch.covers c.args.fetch.now)) c.args.sources.now c.args.source c.in-Some.source.now
-    (slice_get_read c.args.sources.now (length c.args.sources.now) c.args.source c.in-Some.source.now refl within
-    c.in-Some.ensures.lookup.1) c.requires
+    let within : c.args.source < length c.args.sources.now = search rules in (
+      c.type_bounds.sync-R,
+      all_there (IsCovered (g.F.Fetch.covers c.args.fetch.now)) c.args.sources.now c.args.source c.in-Some.source.now
+          (slice_get_read c.args.sources.now (length c.args.sources.now) c.args.source c.in-Some.source.now refl within
+          c.in-Some.ensures.lookup.1) c.requires,
+    )
 
 pub returns-in-Some-clause-asks : goal.returns-in-Some-clause-asks
 returns-in-Some-clause-asks g c =

@@ -1,16 +1,18 @@
-use Rattle.std.proofs.Common.{◌+◌, [], refl, rules, ◌∙◌}
-use Rattle.wh_filed.specs.Filed.{filed_at, partitions_at}
-use Rattle.wh_filed.specs.Fetching.{IsShownBy, AllShownBy, IsCovered}
+use Rattle.std.proofs.Common.{[], refl, rules, ◌∙◌, ◌≤◌, arith}
+use Rattle.wh_filed.specs.Filed.{filed_at}
+use Rattle.wh_filed.specs.Fetching.{AllShownBy}
 use Rattle.wh_filed.specs.Asking.{names_at}
-use Rattle.wh_filed.proofs.FetchingLaws.{at_place, shown_now, still_covered}
-use Rattle.wh_filed.proofs.AskingLaws.{none_among, among_next, among_all}
-use Rattle.wh_exec.proofs.PartLaws.{meant-none, filed_there, part_more, part_lacks}
+use Rattle.wh_filed.proofs.FetchingLaws.{still_covered}
+use Rattle.wh_filed.proofs.AskingLaws.{none_among, among_all}
+use Rattle.wh_exec.proofs.PartLaws.{meant-none}
+use Rattle.wh_exec.proofs.BatchLaws.{batch, shown_part, covered_part, batch_more, batch_lacks, batch_asked}
 use Rattle.wh_exec.proofs.scan.scan_filed.Given.{Over}
-use Rattle.wh_exec.proofs.scan.scan_filed.Goals.{After-scan_one}
+use Rattle.wh_exec.proofs.scan.scan_filed.Goals.{After-scan_batch}
 use Rattle.wh_exec.proofs.scan.scan_filed.Goals as goal
 
-pub loop-one-init : goal.loop-one-init
-loop-one-init g c = record {
+pub loop-at-init : goal.loop-at-init
+loop-at-init g c = record {
+  within = omega arith;
   covered = c.requires;
   fed = λ all. meant-none c.args.steps.now c.args.sink.now;
   sound = λ all. refl;
@@ -20,63 +22,66 @@ loop-one-init g c = record {
   counted = refl;
 }
 
-pub scan_one-requires : goal.scan_one-requires
-scan_one-requires g c =
-    let at = c.loop-one in
-    at_place (IsCovered (g.F.Fetch.covers at.fetch)) c.args.filed.now at.one-index c.one-item.result
-    c.loop-one-test.true c.one-item.is at.invariant.covered
+pub scan_batch-requires : goal.scan_batch-requires
+scan_batch-requires g c = (
+  c.type_bounds.sync-R,
+  covered_part c.args.filed.now c.loop-at.at c.batch_end-end.result (g.F.Fetch.covers c.loop-at.fetch)
+      c.loop-at.invariant.covered,
+)
 
-module _ (g : Over) (c : After-scan_one g) where
+module _ (g : Over) (c : After-scan_batch g) where
+  le : c.loop-at.at ≤ c.batch_end-end.result
+  le = omega (arith, c.batch_end-end.ensures.more)
+
   shown : AllShownBy (g.F.Fetch.contents c.args.fetch.now) (filed_at c.args.filed.now)
-      → IsShownBy (g.F.Fetch.contents c.loop-one.fetch) c.one-item.result.now
-  shown =
-      shown_now (g.F.Fetch.contents c.args.fetch.now) (g.F.Fetch.contents c.loop-one.fetch) c.loop-one.invariant.same
-      c.args.filed.now c.loop-one.one-index c.one-item.result c.loop-one-test.true c.one-item.is
+      → AllShownBy (g.F.Fetch.contents c.loop-at.fetch)
+      (filed_at (batch c.args.filed.now c.loop-at.at c.batch_end-end.result))
+  shown = shown_part c.args.filed.now c.loop-at.at c.batch_end-end.result (g.F.Fetch.contents c.args.fetch.now)
+      (g.F.Fetch.contents c.loop-at.fetch) c.loop-at.invariant.same
 
-pub loop-one-preserved : goal.loop-one-preserved
-loop-one-preserved g c =
-    let at = c.loop-one in
-    let one = shown g (goal.at.loop-one-preserved g c).After-scan_one in
-    let there = filed_there c.args.filed.now at.one-index c.one-item.result c.loop-one-test.true c.one-item.is in
-    let feeds = rw c.in-Some.is at c.in_ok-scan_one.ensures.feeds in
-    let goes = c.in_ok-scan_one.ensures.goes in
+pub loop-at-preserved : goal.loop-at-preserved
+loop-at-preserved g c =
+    let at = c.loop-at in
+    let here = (goal.at.loop-at-preserved g c).After-scan_batch in
+    let end = c.batch_end-end.result in
+    let feeds = rw c.in-Some.is at c.in_ok-scan_batch.ensures.feeds in
+    let goes = c.in_ok-scan_batch.ensures.goes in
     record {
+      within = c.batch_end-end.ensures.within;
       covered = still_covered _ _ (filed_at c.args.filed.now) (λ part. g.met.F.Fetch.covers_on _ _ part goes)
           at.invariant.covered;
-      fed = λ all. part_more c.args.steps.now (partitions_at c.args.filed.now) at.one-index _ there.within there.at
-          (at.invariant.fed all) (feeds (one all));
-      sound = λ all. c.in_ok-scan_one.ensures.sound (one all) ∙ at.invariant.sound all;
-      asks = among_next c.args.filed.now at.one-index c.one-item.result c.loop-one-test.true c.one-item.is _ _ _
-          at.invariant.asks c.in_ok-scan_one.ensures.asks;
+      fed = λ all. batch_more c.args.filed.now at.at end (le g here) c.args.steps.now (at.invariant.fed all)
+          (feeds (shown g here all));
+      sound = λ all. c.in_ok-scan_batch.ensures.sound (shown g here all) ∙ at.invariant.sound all;
+      asks = batch_asked c.args.filed.now at.at end (le g here) _ _ _ at.invariant.asks c.in_ok-scan_batch.ensures.asks;
       same = search rules;
       goes = g.met.F.Fetch.stays_on _ _ _ at.invariant.goes goes;
       counted = search rules;
     }
 
-pub returns-in_err-scan_one-clause-sound : goal.returns-in_err-scan_one-clause-sound
-returns-in_err-scan_one-clause-sound g c all =
-    c.in_err-scan_one.ensures.sound (shown g (goal.at.returns-in_err-scan_one-clause-sound g c).After-scan_one all)
-    ∙ c.loop-one.invariant.sound all
+pub returns-in_err-scan_batch-clause-sound : goal.returns-in_err-scan_batch-clause-sound
+returns-in_err-scan_batch-clause-sound g c all =
+    c.in_err-scan_batch.ensures.sound (shown g (goal.at.returns-in_err-scan_batch-clause-sound g c).After-scan_batch all)
+    ∙ c.loop-at.invariant.sound all
 
 pub returns-in_default-clause-feeds : goal.returns-in_default-clause-feeds
 returns-in_default-clause-feeds g c all =
-    let at = c.loop-one in
-    let one = shown g (goal.at.returns-in_default-clause-feeds g c).After-scan_one all in
-    let there = filed_there c.args.filed.now at.one-index c.one-item.result c.loop-one-test.true c.one-item.is in
-    part_lacks c.args.steps.now (partitions_at c.args.filed.now) at.one-index _ there.within there.at
-    (at.invariant.fed all) ((rw c.in_default.is at c.in_ok-scan_one.ensures.feeds) one)
+    let at = c.loop-at in
+    let here = (goal.at.returns-in_default-clause-feeds g c).After-scan_batch in
+    batch_lacks c.args.filed.now at.at c.batch_end-end.result (le g here) c.args.steps.now (at.invariant.fed all)
+    ((rw c.in_default.is at c.in_ok-scan_batch.ensures.feeds) (shown g here all))
 
 pub returns-in_default-clause-sound : goal.returns-in_default-clause-sound
 returns-in_default-clause-sound g c all =
-    c.in_ok-scan_one.ensures.sound (shown g (goal.at.returns-in_default-clause-sound g c).After-scan_one all)
-    ∙ c.loop-one.invariant.sound all
+    c.in_ok-scan_batch.ensures.sound (shown g (goal.at.returns-in_default-clause-sound g c).After-scan_batch all)
+    ∙ c.loop-at.invariant.sound all
 
 pub returns-in_default-clause-asks : goal.returns-in_default-clause-asks
 returns-in_default-clause-asks g c =
-    let at = c.loop-one in
-    among_all (at.one-index + 1) (names_at c.args.filed.now) _ _
-    (among_next c.args.filed.now at.one-index c.one-item.result c.loop-one-test.true c.one-item.is _ _ _
-    at.invariant.asks c.in_ok-scan_one.ensures.asks)
+    let here = (goal.at.returns-in_default-clause-asks g c).After-scan_batch in
+    among_all c.batch_end-end.result (names_at c.args.filed.now) _ _
+    (batch_asked c.args.filed.now c.loop-at.at c.batch_end-end.result (le g here) _ _ _ c.loop-at.invariant.asks
+    c.in_ok-scan_batch.ensures.asks)
 
 pub returns-clause-asks : goal.returns-clause-asks
-returns-clause-asks g c = among_all c.loop-one.one-index (names_at c.args.filed.now) _ _ c.loop-one.invariant.asks
+returns-clause-asks g c = among_all c.loop-at.at (names_at c.args.filed.now) _ _ c.loop-at.invariant.asks

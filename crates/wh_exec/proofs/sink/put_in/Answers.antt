@@ -9,13 +9,13 @@ use Rattle.wh_exec.proofs.SinkLaws.{rows_taken, groups_taken}
 use Rattle.wh_exec.proofs.sink.put_in.Goals as goal
 
 pub returns-in_ok-put_all-in-Rows : goal.returns-in_ok-put_all-in-Rows
-returns-in_ok-put_all-in-Rows c =
+returns-in_ok-put_all-in-Rows g c =
     let rows = rows_in c.args.rows.items in
     subst (λ (s : Sink). Takes s (Rows c.put_all.new.kept) (Some (bag_of rows))) (sym c.in-Rows.is)
     (rows_taken c.in-Rows.kept c.put_all.new.kept rows c.in_ok-put_all-in-Rows.ensures)
 
 pub returns-in-Groups : goal.returns-in-Groups
-returns-in-Groups c =
+returns-in-Groups g c =
     subst (λ (s : Sink). Pours c.add.result s (Groups c.add.new.self) (Some (bag_of (rows_in c.args.rows.items))))
     (sym c.in-Groups.is)
     (subst (λ (ts : List Tuple). Pours c.add.result (Groups c.in-Groups.grouping) (Groups c.add.new.self)

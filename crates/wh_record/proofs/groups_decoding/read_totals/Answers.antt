@@ -13,7 +13,7 @@ returns-in_err-total c =
 
 pub loop-preserved : goal.loop-preserved
 loop-preserved c =
-    rw (c.in_ok-push.ensures.items) (goes_on total_at c.loop.totals.items c.args.calls c.loop.counter
+    rw (c.in_ok-push.ensures.ok) (goes_on total_at c.loop.totals.items c.args.calls c.loop.counter
     c.loop.rest.now c.in_ok-total.total c.in_ok-total.after.now
     (items_at total_at c.args.calls c.args.bytes.now) c.loop-test.true c.in_ok-total.ensures c.loop.invariant)
 

@@ -36,7 +36,7 @@ use Rattle.wh_refresh.proofs.bringing.bring.Goals as goal
 
 -- what the table has in the file is covered, and is shown where that of all is
 pub new_rows-requires-clause-own : goal.new_rows-requires-clause-own
-new_rows-requires-clause-own g c =
+new_rows-requires-clause-own g c κs bounds =
     each_held (IsCovered (g.F.Fetch.covers c.args.fetch.now)) (filed_of c.in-Some-table_at.table.now)
     (filed_at_objects c.args.objects.now) c.in-Some-table_at.ensures.among c.requires
 

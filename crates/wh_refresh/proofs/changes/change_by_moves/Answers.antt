@@ -33,12 +33,12 @@ module _ (g : Over) where
       c.deref-2.ensures.value c.in_ok-moved.ensures.went each
 
 pub linear_delta-requires-clause-comes : goal.linear_delta-requires-clause-comes
-linear_delta-requires-clause-comes g c =
+linear_delta-requires-clause-comes g c κs bounds =
     each_came g (IsCovered (g.F.Fetch.covers c.args.fetch.now))
     (goal.at.linear_delta-requires-clause-comes g c).After-deref-4 c.requires.covered
 
 pub linear_delta-requires-clause-goes : goal.linear_delta-requires-clause-goes
-linear_delta-requires-clause-goes g c =
+linear_delta-requires-clause-goes g c κs bounds =
     each_went g (IsCovered (g.F.Fetch.covers c.args.fetch.now))
     (goal.at.linear_delta-requires-clause-goes g c).After-deref-4 c.requires.covered
 

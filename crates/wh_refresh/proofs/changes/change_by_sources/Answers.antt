@@ -44,11 +44,13 @@ module _ (g : Over) where
       c.deref-2.ensures.value c.in_ok-held.ensures.among each
 
 pub delta-requires : goal.delta-requires
-delta-requires g c =
-    let after = (goal.at.delta-requires g c).After-deref-4 in
-    let P = IsCovered (g.F.Fetch.covers c.args.fetch.now) in
-    holds_for P _ c.deref-3.result.now c.deref-4.result.now (each_old g P after c.requires)
-    (each_new g P after c.requires)
+delta-requires g c = (
+  c.type_bounds.sync-R,
+  let after = (goal.at.delta-requires g c).After-deref-4 in
+      let P = IsCovered (g.F.Fetch.covers c.args.fetch.now) in
+      holds_for P _ c.deref-3.result.now c.deref-4.result.now (each_old g P after c.requires)
+      (each_new g P after c.requires),
+)
 
 pub returns-clause-change : goal.returns-clause-change
 returns-clause-change g c = λ shown.

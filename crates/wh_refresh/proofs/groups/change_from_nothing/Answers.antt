@@ -30,7 +30,7 @@ each_there P g c each =
     c.deref.ensures.value c.in_ok-held.ensures.among each
 
 pub kept_delta-requires-clause-comes : goal.kept_delta-requires-clause-comes
-kept_delta-requires-clause-comes g c =
+kept_delta-requires-clause-comes g c κs bounds =
     each_there (IsCovered (g.F.Fetch.covers c.args.fetch.now)) g
     (goal.at.kept_delta-requires-clause-comes g c).After-deref-2 c.requires
 

@@ -33,12 +33,12 @@ module _ (g : Over) where
       c.deref-2.ensures.value c.in_ok-moved.ensures.went each
 
 pub kept_delta-requires-clause-comes : goal.kept_delta-requires-clause-comes
-kept_delta-requires-clause-comes g c =
+kept_delta-requires-clause-comes g c κs bounds =
     each_came g (IsCovered (g.F.Fetch.covers c.args.fetch.now))
     (goal.at.kept_delta-requires-clause-comes g c).After-deref-4 c.requires.covered
 
 pub kept_delta-requires-clause-goes : goal.kept_delta-requires-clause-goes
-kept_delta-requires-clause-goes g c =
+kept_delta-requires-clause-goes g c κs bounds =
     each_went g (IsCovered (g.F.Fetch.covers c.args.fetch.now))
     (goal.at.kept_delta-requires-clause-goes g c).After-deref-4 c.requires.covered
 

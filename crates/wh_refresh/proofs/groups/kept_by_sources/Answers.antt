@@ -36,12 +36,12 @@ module _ (g : Over) where
       c.deref-2.ensures.value c.in_ok-held.ensures.among each
 
 pub kept_delta_between-requires-clause-comes : goal.kept_delta_between-requires-clause-comes
-kept_delta_between-requires-clause-comes g c =
+kept_delta_between-requires-clause-comes g c κs bounds =
     given_hold (IsCovered (g.F.Fetch.covers c.args.fetch.now)) c.deref-4.result.now c.deref-3.result.now
     (each_new g _ (goal.at.kept_delta_between-requires-clause-comes g c).After-deref-4 c.requires)
 
 pub kept_delta_between-requires-clause-goes : goal.kept_delta_between-requires-clause-goes
-kept_delta_between-requires-clause-goes g c =
+kept_delta_between-requires-clause-goes g c κs bounds =
     given_hold (IsCovered (g.F.Fetch.covers c.args.fetch.now)) c.deref-3.result.now c.deref-4.result.now
     (each_old g _ (goal.at.kept_delta_between-requires-clause-goes g c).After-deref-4 c.requires)
 

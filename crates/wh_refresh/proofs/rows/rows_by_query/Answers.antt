@@ -30,9 +30,11 @@ each_there P g c each =
     (each_held P (filed_held held) (filed_at_objects c.args.objects.now) c.in_ok-held.ensures.among each)
 
 pub evaluated-requires : goal.evaluated-requires
-evaluated-requires g c =
-    each_there (IsCovered (g.F.Fetch.covers c.args.fetch.now)) g (goal.at.evaluated-requires g c).After-deref-2
-    c.requires
+evaluated-requires g c = (
+  c.type_bounds.sync-R,
+  each_there (IsCovered (g.F.Fetch.covers c.args.fetch.now)) g (goal.at.evaluated-requires g c).After-deref-2
+      c.requires,
+)
 
 pub returns-clause-evaluated : goal.returns-clause-evaluated
 returns-clause-evaluated g c shown =

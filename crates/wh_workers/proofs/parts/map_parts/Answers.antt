@@ -11,7 +11,7 @@ pub returns : goal.returns
 returns g c =
     IfOk-weaker c.joined.result (λ answers. joined_of c.in_ok-pieces.pieces.items ≡ Some answers.items) _
     (λ answers is.
-    joined_whole _ c.args.workers c.args.parts.now c.in_ok-pieces.pieces.items answers.items
-    (pieces_as _ _ c.args.workers c.args.parts.now c.in_ok-pieces.pieces.items c.in_ok-pieces.ensures
+    joined_whole _ c.args.workers.now.count c.args.parts.now c.in_ok-pieces.pieces.items answers.items
+    (pieces_as _ _ c.args.workers.now.count c.args.parts.now c.in_ok-pieces.pieces.items c.in_ok-pieces.ensures
     (InPiece (λ part answer. FnReturnsAt g.F.Fn c.args.f.now (arc_value part) answer)) (λ piece answer post. post)) is)
     c.joined.ensures

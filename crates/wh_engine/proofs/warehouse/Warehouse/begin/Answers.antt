@@ -8,6 +8,7 @@ invariant_of-self g c =
     let w = c.args.self.now in
     let begun = c.begin.ensures in
     record {
+      some_worker = w.some_worker;
       reach = subst (λ (disk : _). end_of w.journal ≤ g.D.Disk.size disk) (sym begun.disk.0) w.reach;
       front = omega (arith, w.front, begun.disk.1);
       right = still_right g.D.Disk w.fetch c.begin.new.self begun.disk.0 begun.kept w.right;

@@ -58,6 +58,7 @@ invariant_of-self-in-Ok-2 g c =
     let low : w.fetch.reach ≤ end_of c.reserve.new.self - 1 = omega (arith, w.front, c.reserve.ensures.same.end) in
     let moved : w.fetch.reach ≤ c.records_end-self.result = omega (arith, w.front, grown g at, last) in
     record {
+      some_worker = w.some_worker;
       reach = c.append.ensures.reach;
       front = c.records_end-self.ensures.front;
       right = right_beside c.stays_beside.ensures w.fetch.cache.entries (g.D.Disk.bytes w.fetch.disk)
@@ -72,6 +73,7 @@ invariant_of-self-in-Err g c =
     let same = c.reserve.ensures.same in
     let low : w.fetch.reach ≤ end_of c.reserve.new.self - 1 = omega (arith, w.front, same.end) in
     record {
+      some_worker = w.some_worker;
       reach = c.append.ensures.reach;
       front = omega (arith, w.front, same.end, c.in-Err.ensures.listed.unlisted.1);
       right = right_beside c.stays_beside.ensures w.fetch.cache.entries (g.D.Disk.bytes w.fetch.disk)

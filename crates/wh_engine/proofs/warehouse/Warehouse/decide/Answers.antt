@@ -8,6 +8,7 @@ invariant_of-self g c =
     let w = c.args.self.now in
     let goes = c.decide.ensures.goes in
     record {
+      some_worker = w.some_worker;
       reach = omega (arith, w.reach, goes.only_read.size);
       front = omega (arith, w.front, goes.reach);
       right = goes.right w.right;

@@ -1,0 +1,14 @@
+ghost use Rattle.std.specs.Prelude.{◌≤◌};
+
+use std::alloc::Global;
+use std::thread::Threads;
+
+/// By how many workers lists are gone over, and where their answers are kept. No answer depends on
+/// the number.
+#[derive(Drop)]
+pub struct Workers<'a, R: Threads + Sync> {
+    pub rt: &'a R,
+    pub alloc: Global,
+    pub count: u32,
+    ghost some: { 1 ≤ count },
+}

@@ -1,0 +1,44 @@
+CREATE TABLE T(K NUMBER, V NUMBER);
+INSERT INTO T VALUES (1, 0);
+INSERT INTO T SELECT K + 1, V + 1 FROM T;
+INSERT INTO T SELECT K + 2, V + 1 FROM T;
+INSERT INTO T SELECT K + 4, V + 1 FROM T;
+INSERT INTO T SELECT K + 8, V + 1 FROM T;
+INSERT INTO T SELECT K + 16, V + 1 FROM T;
+INSERT INTO T SELECT K + 32, V + 1 FROM T;
+INSERT INTO T SELECT K + 64, V + 1 FROM T;
+INSERT INTO T SELECT K + 128, V + 1 FROM T;
+INSERT INTO T SELECT K + 256, V + 1 FROM T;
+INSERT INTO T SELECT K + 512, V + 1 FROM T;
+INSERT INTO T SELECT K + 1024, V + 1 FROM T;
+INSERT INTO T SELECT K + 2048, V + 1 FROM T;
+INSERT INTO T SELECT K + 4096, V + 1 FROM T;
+-- a condition on each of 8,192 rows
+SELECT COUNT(*) AS N, SUM(K) AS S FROM T WHERE K * 3 - V > 20000;
+-- a product of each
+SELECT SUM(P) AS S FROM (SELECT K * V + 1 AS P FROM T) Q;
+-- 14 groups of all
+SELECT V, COUNT(*) AS N, SUM(K + K) AS S FROM T GROUP BY V ORDER BY V;
+-- the rows that are kept stand in the table's order or in the one that is asked for
+SELECT K FROM T WHERE V * V > 168 OR K - 4096 = 0 ORDER BY K;
+CREATE TABLE L(K NUMBER, V NUMBER);
+INSERT INTO L SELECT 900000000000000000, V FROM T WHERE K <= 4096;
+INSERT INTO L SELECT -900000000000000000, V FROM T WHERE K <= 4096;
+-- the sum of a half has 22 digits, and that of all none that is too many
+SELECT SUM(K) AS S, COUNT(*) AS N FROM L;
+-- nor that of a group
+SELECT V, SUM(K) AS S, COUNT(*) AS N FROM L GROUP BY V ORDER BY V;
+-- a whole that has 22 digits
+SELECT SUM(K) AS S FROM L WHERE K > 0;
+INSERT INTO T VALUES (999999999999999999, 99);
+INSERT INTO T SELECT K + 8192, V FROM T WHERE K <= 8192;
+-- the condition of one row of 16,385, in their midst, has no value
+SELECT COUNT(*) AS N FROM T WHERE K + 1 > 0;
+-- nor has its product
+SELECT COUNT(*) AS N FROM (SELECT K * 2 AS P FROM T) Q WHERE P > 0;
+-- nor an argument of its group
+SELECT V, SUM(K + 1) AS S FROM T GROUP BY V;
+-- nor a key
+SELECT K + 1 AS P, COUNT(*) AS N FROM T GROUP BY K + 1;
+-- a condition without arithmetic leaves it out first
+SELECT COUNT(*) AS N, SUM(K + 1) AS S FROM T WHERE V < 99;
