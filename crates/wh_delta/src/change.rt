@@ -99,6 +99,28 @@ pub fn linear_delta<R: Threads + Sync, F: Fetch>(
     Ok(Some(net))
 }
 
+/// The same of any query, from what of its sources came and what went, and, where it isn't linear,
+/// from what they held before.
+pub fn delta_over<R: Threads + Sync, F: Fetch>(
+    workers: &Workers<'_, R>,
+    query: &Query,
+    old: &[Source<'_>],
+    comes: &[Source<'_>],
+    goes: &[Source<'_>],
+    fetch: &mut F,
+) -> Result<Option<Signed>, FetchFault>
+    requires comes { AllCovered (F.covers fetch.old) (filed_in comes.now) }
+    requires goes { AllCovered (F.covers fetch.old) (filed_in goes.now) }
+    requires stays { changes.linear (query_of query.now) ≡ false
+        → AllCovered (F.covers fetch.old) (filed_in old.now) }
+{
+    let Some(moves) = moves_of(workers, query, old, comes, goes, fetch)? else {
+        return Ok(None);
+    };
+    let net = signed(workers.alloc, &moves)?;
+    Ok(Some(net))
+}
+
 fn moves_of<R: Threads + Sync, F: Fetch>(
     workers: &Workers<'_, R>,
     query: &Query,

@@ -14,5 +14,6 @@ mod plans;
 mod reading;
 mod staying;
 
-pub use change::{delta, linear_delta};
+pub use change::{delta, delta_over, linear_delta};
 pub use kept::{KeptChange, kept_delta, kept_delta_between};
+pub use moved::only_in;

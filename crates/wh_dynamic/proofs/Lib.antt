@@ -1,3 +1,4 @@
 pub mod PlaceLemmas
 pub mod PeriodLemmas
 pub mod NoSlots
+pub mod WaveLemmas

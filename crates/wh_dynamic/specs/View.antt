@@ -1,5 +1,6 @@
 -- What dynamic tables of the code stand for.
-use Rattle.std.specs.Prelude.{ℕ, List, map, Option, option_map}
+use Rattle.std.specs.Prelude.{ℕ, List, map, Option, option_map, Vec}
+use Rattle.std.specs.Global.{Global}
 use Rattle.std.specs.Option.{option_map_or}
 use Rattle.std.specs.FinMap.{empty}
 use Rattle.wh_group.specs.Slots.{Slots, slots_of, kept_groups, groups_of_slots}
@@ -62,3 +63,6 @@ dynamics_in all = map (option_map watched_of) all
 -- the id of a due table, with its target
 abbrev pub due_of : Option (ℕ × ℕ) → Option (ℕ × ℕ)
 due_of due = option_map (λ p. (p.0, p.1)) due
+
+abbrev pub waves_in : List (Vec ℕ Global) → List (List ℕ)
+waves_in waves = map (λ wave. wave.items) waves

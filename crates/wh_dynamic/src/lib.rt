@@ -10,6 +10,7 @@ mod reached;
 mod reads;
 mod state;
 mod watched;
+mod wave;
 
 pub use due::due_table;
 pub use dynamic::Dynamic;
@@ -19,3 +20,4 @@ pub use reached::{brought, upstream, upstream_of_new};
 pub use reads::ids_read;
 pub use state::DynamicState;
 pub use watched::Watched;
+pub use wave::waves;

@@ -1,5 +1,5 @@
 //! How many values rows have, as far as it is known before they are read. No clause needs it.
-use crate::{Parts, Source};
+use crate::{Loaded, Parts, Source};
 use wh_algebra::{Operator, Physical};
 
 /// Of the rows of a plan.
@@ -22,6 +22,7 @@ pub(crate) fn width_of(plan: &Physical, sources: &[Source<'_>]) -> usize {
 fn source_width(source: &Source<'_>) -> usize {
     match source {
         Source::Parts(parts) => parts_width(parts),
+        Source::Loaded(parts) => loaded_width(parts),
         Source::Rows(rows) => match rows.first() {
             Some(row) => row.len(),
             None => 0,
@@ -32,6 +33,16 @@ fn source_width(source: &Source<'_>) -> usize {
 fn parts_width(parts: &Parts<'_>) -> usize {
     if let Some(filed) = parts.filed.first() {
         return filed.meta().columns.len();
+    }
+    match parts.made.first() {
+        Some(part) => part.rows()[0].row.len(),
+        None => 0,
+    }
+}
+
+fn loaded_width(parts: &Loaded<'_>) -> usize {
+    if let Some(part) = parts.loaded.first() {
+        return part.rows()[0].row.len();
     }
     match parts.made.first() {
         Some(part) => part.rows()[0].row.len(),

@@ -1,3 +1,4 @@
 pub mod Upstream
 pub mod Moment
 pub mod Rebase
+pub mod Waves

@@ -93,6 +93,7 @@ fn source_width(source: &Source<'_>) -> Option<usize>
 {
     match source {
         Source::Parts(parts) => parts_width(parts),
+        Source::Loaded(_) => None,
         Source::Rows(rows) => rows_width(rows),
     }
 }

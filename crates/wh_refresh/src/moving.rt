@@ -18,6 +18,7 @@ use crate::objects::table_at;
 use crate::sources::SourceHeld;
 use std::alloc::{AllocError, Global};
 use wh_catalog::StoredObject;
+use wh_delta::only_in;
 use wh_filed::FiledPartition;
 use wh_version::Turnover;
 
@@ -110,4 +111,26 @@ fn is_brought(brought: &[Brought], id: u32) -> bool
         → AreBrought stored brought.now bs → result ≡ is_some (edits_sought id bs) }
 {
     new_rows_of(brought, id).is_some()
+}
+
+/// What sources hold of what they didn't hold before, and what they held before and don't any more.
+pub(crate) fn sources_parted<'a>(
+    alloc: Global,
+    stood: &[SourceHeld<'a>],
+    held: &[SourceHeld<'a>],
+) -> Result<SourcesMoved<'a>, AllocError> {
+    let mut came = Vec::new(alloc);
+    let mut went = Vec::new(alloc);
+    for place in 0..held.len().min(stood.len()) {
+        let (old, new) = (&stood[place], &held[place]);
+        came.push(SourceHeld {
+            filed: only_in(alloc, &new.filed, &old.filed)?,
+            made: new.made,
+        })?;
+        went.push(SourceHeld {
+            filed: only_in(alloc, &old.filed, &new.filed)?,
+            made: old.made,
+        })?;
+    }
+    Ok(SourcesMoved { came, went })
 }

@@ -12,3 +12,14 @@ pub struct Workers<'a, R: Threads + Sync> {
     pub count: u32,
     ghost some: { 1 ≤ count },
 }
+
+impl<'a, R: Threads + Sync> Workers<'a, R> {
+    /// One of them alone.
+    pub fn alone(&self) -> Workers<'a, R> {
+        Workers {
+            rt: self.rt,
+            alloc: self.alloc,
+            count: 1,
+        }
+    }
+}

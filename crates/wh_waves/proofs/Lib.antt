@@ -1,0 +1,4 @@
+pub mod SoughtLaws
+pub mod SameLaws
+pub mod SettledLaws
+pub mod WaveLaws
