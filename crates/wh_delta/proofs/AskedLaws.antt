@@ -17,7 +17,7 @@ use Rattle.wh_meaning.specs.Query.{Query, Scan, Filter, Project, Join, UnionAll,
 use Rattle.wh_maintenance.specs.Delta.{linear}
 use Rattle.wh_maintenance.specs.Above.{Grouping, grouping}
 use Rattle.wh_exec.specs.declared.source.Source.{Source}
-use Rattle.wh_exec.specs.declared.source.Source.TheVariants.{Parts, Rows}
+use Rattle.wh_exec.specs.declared.source.Source.TheVariants.{Parts, Loaded, Rows}
 use Rattle.wh_exec.specs.Source.{filed_of}
 use Rattle.wh_exec.specs.Asked.{filed_by, asked_for}
 use Rattle.wh_delta.specs.Moved.{View, view_of, views_of, moved_of}
@@ -36,6 +36,7 @@ asked_same (Group q by calls) f g same = asked_same q f g same
 
 in_view : (s : Source) → filed_of s ≡ (view_of s).0
 in_view (Parts parts) = refl
+in_view (Loaded parts) = refl
 in_view (Rows rows) = refl
 
 found_in_view : (found : Option Source) → option_map_or filed_of found []

@@ -10,12 +10,12 @@ use Rattle.std.proofs.Common.{refl, sym, ap, subst, ◌∙◌, inl, inr}
 use Rattle.std.proofs.lemmas.Bool.Decides.{eqb_tells}
 use Rattle.std.proofs.lemmas.List.{map-append}
 use Rattle.wh_frame.specs.Partition.{Partition}
-use Rattle.wh_filed.specs.Filed.{Filed, filed_at, partitions_filed}
+use Rattle.wh_filed.specs.Filed.{Filed, filed_at, loaded_of, partitions_filed}
 use Rattle.wh_meaning.specs.Bag.{Bag, no_rows, bag_of, plus}
 use Rattle.wh_meaning.specs.Query.{Instance, source_in}
 use Rattle.wh_meaning.proofs.BagLaws.{bag_of-append, plus-assoc, no_rows-plus}
 use Rattle.wh_exec.specs.declared.source.Source.{Source}
-use Rattle.wh_exec.specs.declared.source.Source.TheVariants.{Parts, Rows}
+use Rattle.wh_exec.specs.declared.source.Source.TheVariants.{Parts, Loaded, Rows}
 use Rattle.wh_exec.specs.Source.{parts_bag, bag_in, instance_in, filed_of, filed_in}
 use Rattle.wh_maintenance.specs.Turn.{IsTurn}
 use Rattle.wh_maintenance.specs.Parts.{IsNaming, AgreesWith, AgreeWith}
@@ -80,6 +80,7 @@ pub bag_viewed : (source : Source) → bag_in source ≡ view_bag (view_of sourc
 bag_viewed (Parts p) =
     parts_append (partitions_filed (filed_at p.filed.now)) p.made.now
     ∙ ap (λ b. plus b (parts_bag p.made.now)) (filed_listed (filed_at p.filed.now))
+bag_viewed (Loaded p) = sym (no_rows-plus (parts_bag (loaded_of p.loaded.now ++ p.made.now)))
 bag_viewed (Rows rows) = sym (no_rows-plus (bag_of rows.now))
 
 abbrev pub bags : List View → Instance
@@ -109,7 +110,7 @@ one_turn v o is =
 none_turn : IsTurn no_rows no_rows no_rows no_rows
 none_turn = record { stays = no_rows; was = sym (no_rows-plus no_rows); is = sym (no_rows-plus no_rows) }
 
-abbrev AtPlace : List View → List View → ℕ → Type 0
+abbrev pub AtPlace : List View → List View → ℕ → Type 0
 AtPlace old new place = IsTurn (source_in (bags old) place) (source_in (bags new) place)
     (source_in (bags (moved_of new old)) place) (source_in (bags (moved_of old new)) place)
 
@@ -150,6 +151,7 @@ moved_turns old new comes goes is came gone place =
 
 filed_viewed : (source : Source) → filed_of source ≡ (view_of source).0
 filed_viewed (Parts p) = refl
+filed_viewed (Loaded p) = refl
 filed_viewed (Rows rows) = refl
 
 pub filed_views_of : (sources : List Source) → filed_in sources ≡ filed_views (views_of sources)

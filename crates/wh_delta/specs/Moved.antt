@@ -8,15 +8,15 @@
 --     NumbersRise        each partition's number is below the next one's
 --     LowerBefore, NoneLowerAt   where a partition would stand among others by its number
 --     HoldsFor           what holds of each partition from which the change of a query is worked out
-use Rattle.std.specs.Prelude.{◌≡◌, ℕ, ◌+◌, ◌<◌, ◌≤◌, true, false, Bool, nat_eq, List, [], ◌∷◌, map, length}
+use Rattle.std.specs.Prelude.{◌≡◌, ℕ, ◌+◌, ◌<◌, ◌≤◌, true, false, Bool, nat_eq, List, [], ◌∷◌, ◌++◌, map, length}
 use Rattle.std.specs.Prelude.{slice_index_or as get_or}
 use Rattle.std.specs.List.{flat_map, AllByRecursion}
 use denote.Ref.{Bor}
-use Rattle.wh_filed.specs.Filed.{Filed, filed_at}
+use Rattle.wh_filed.specs.Filed.{Filed, filed_at, loaded_of}
 use Rattle.wh_meaning.specs.Bag.{Bag, bag_of, plus}
 use Rattle.wh_meaning.specs.Query.{Query}
 use Rattle.wh_exec.specs.declared.source.Source.{Source}
-use Rattle.wh_exec.specs.declared.source.Source.TheVariants.{Parts, Rows}
+use Rattle.wh_exec.specs.declared.source.Source.TheVariants.{Parts, Loaded, Rows}
 use Rattle.wh_exec.specs.Source.{parts_bag, filed_in}
 use Rattle.wh_maintenance.specs.Delta.{linear}
 use Rattle.wh_maintenance.specs.Parts as parts
@@ -35,6 +35,7 @@ View = List Filed × Bag
 
 abbrev pub view_of : Source → View
 view_of (Parts p) = (filed_at p.filed.now, parts_bag p.made.now)
+view_of (Loaded p) = ([], parts_bag (loaded_of p.loaded.now ++ p.made.now))
 view_of (Rows rows) = ([], bag_of rows.now)
 
 abbrev pub views_of : List Source → List View

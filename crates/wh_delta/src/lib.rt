@@ -16,3 +16,4 @@ mod staying;
 
 pub use change::{delta, linear_delta};
 pub use kept::{KeptChange, kept_delta, kept_delta_between};
+pub use moved::only_in;

@@ -11,7 +11,7 @@ ghost use Rattle.wh_delta.specs.Moved.{NumbersRise, LowerBefore, NoneLowerAt};
 ghost use Rattle.wh_delta.specs.Views.{view_held, views_held};
 
 use std::alloc::{AllocError, Global};
-use wh_exec::{Parts, Source};
+use wh_exec::{Loaded, Parts, Source};
 use wh_filed::FiledPartition;
 use wh_part::Partition;
 use wh_value::Row;
@@ -20,6 +20,7 @@ use wh_value::Row;
 #[derive(Drop)]
 pub(crate) enum Held<'a> {
     Parts(Vec<&'a FiledPartition>, &'a [Partition]),
+    Loaded(Loaded<'a>),
     Rows(&'a [Row]),
 }
 
@@ -72,6 +73,7 @@ fn moved_one<'a>(
             let filed = only_in(alloc, parts.filed, others)?;
             Ok(Held::Parts(filed, parts.made))
         }
+        Source::Loaded(parts) => Ok(Held::Loaded(*parts)),
         Source::Rows(rows) => Ok(Held::Rows(rows)),
     }
 }
@@ -81,7 +83,7 @@ fn filed_of<'a>(source: &Source<'a>) -> &'a [&'a FiledPartition]
 {
     match source {
         Source::Parts(parts) => parts.filed,
-        Source::Rows(_) => &[],
+        Source::Loaded(_) | Source::Rows(_) => &[],
     }
 }
 
@@ -104,15 +106,16 @@ fn source_held<'a>(held: &'a Held<'_>) -> Source<'a>
 {
     match held {
         Held::Parts(filed, made) => Source::Parts(Parts { filed, made }),
+        Held::Loaded(parts) => Source::Loaded(*parts),
         Held::Rows(rows) => Source::Rows(rows),
     }
 }
 
 // ---- partitions by their numbers
 
-// The partitions whose numbers no other one has. Both lists mostly rise by number: then one pass is
-// enough, however many partitions moved.
-fn only_in<'a>(
+/// The partitions whose numbers no other one has. Both lists mostly rise by number: then one pass is
+/// enough, however many partitions moved.
+pub fn only_in<'a>(
     alloc: Global,
     some: &[&'a FiledPartition],
     others: &[&FiledPartition],

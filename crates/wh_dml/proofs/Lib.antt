@@ -1,7 +1,9 @@
 pub mod OptionLaws
 pub mod ColumnLaws
 pub mod EffectLaws
+pub mod PieceLaws
 pub mod SettledLaws
+pub mod MetLaws
 pub mod ClauseLaws
 pub mod PairLaws
 pub mod TargetLaws

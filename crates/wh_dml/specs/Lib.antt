@@ -2,3 +2,4 @@ pub mod View
 pub mod Leaving
 pub mod Given
 pub mod Steps
+pub mod Pieces

@@ -7,6 +7,8 @@
 --     marked, marks                   which source rows are matched, after one row of the target and after all
 --     marked_at                       the same after one row, where those at positions alone may be
 --     Settled, settled                what the target's rows come to, by their turns
+--     Met, met                        the same with the source rows that are matched; met_none of no rows
+--     either, with_met                source rows that are matched by some or by others; both of some and of others
 --     outcome                         the effect with the rows that are added, or the ambiguous row
 --     left_over, inserts_of           the source rows that aren't matched, and the rows that they add
 use Rattle.std.specs.Prelude.{ℕ, Bool, false, ◌||◌, if◌then◌else◌, List, [], ◌∷◌, ◌++◌, map, Option, Some, None}
@@ -126,6 +128,32 @@ settled turns (kept ∷ rest) =
 
 abbrev pub outcome : Settled → List Row → EffectResult
 outcome s added = unless_several s.ambiguous (Does (record s.effect { added = added }))
+
+-- what rows of the target come to, and which source rows are matched by one of them
+pub record Met : Type 0 where
+  pub found : Settled
+  pub flags : List Bool
+
+abbrev pub no_flags : List Row → List Bool
+no_flags source = map (λ _. false) source
+
+abbrev pub met_none : List Row → Met
+met_none source = record { found = nothing; flags = no_flags source }
+
+abbrev pub either : List Bool → List Bool → List Bool
+either [] others = []
+either (f ∷ fs) [] = []
+either (f ∷ fs) (g ∷ gs) = (f || g) ∷ either fs gs
+
+abbrev pub with_met : Met → Met → Met
+with_met a b = record { found = after a.found b.found; flags = either a.flags b.flags }
+
+abbrev pub with_flags : List Bool → Option Settled → Option Met
+with_flags flags found = option_map (λ s. record { found = s; flags = flags }) found
+
+abbrev pub met : Scalar → List BoundClause → List Row → List (ℕ × Row) → Option Met
+met on clauses source target =
+    with_flags (marks on target source (no_flags source)) (settled (turns_on on clauses source) target)
 
 -- ---- the source rows that aren't matched
 

@@ -3,6 +3,7 @@
 --     effect_of               an effect
 --     turn_of, turns_of       what becomes of a row
 --     settled_of              what the rows of a target come to in MERGE
+--     met_of                  the same, with the source rows that are matched
 --     fault_of                the fault of an evaluation
 --     Gives                   what `effect` gives: the effect that is meant, or why there is none
 use Rattle.std.specs.Prelude.{◌≡◌, ℕ, List, map, Result, Ok, Err}
@@ -20,6 +21,7 @@ use Rattle.wh_dml.specs.declared.target.Effect.{Effect}
 use Rattle.wh_dml.specs.declared.turn.Turn.{Turn}
 use Rattle.wh_dml.specs.declared.turn.Turn.TheVariants.{Stays, Goes, Becomes}
 use Rattle.wh_dml.specs.declared.settled.Settled.{Settled}
+use Rattle.wh_dml.specs.declared.met.Met.{Met}
 use Rattle.wh_dml.specs.declared.fault.EffectFault.{EffectFault}
 use Rattle.wh_dml.specs.declared.fault.EffectFault.TheVariants.{OutOfMemory, NumberOutOfRange, AmbiguousMerge}
 
@@ -39,6 +41,9 @@ turns_of turns = map turn_of turns
 
 abbrev pub settled_of : Settled → steps.Settled
 settled_of s = record { ambiguous = s.ambiguous; effect = effect_of s.effect }
+
+abbrev pub met_of : Met → steps.Met
+met_of m = record { found = settled_of m.found; flags = m.flags.items }
 
 abbrev pub fault_of : EvalFault → EffectFault
 fault_of faults.NumberOutOfRange = NumberOutOfRange

@@ -15,7 +15,6 @@ use crate::insert::{rows_of, rows_over};
 use crate::merge::merged;
 use crate::update::updated;
 use crate::{Effect, EffectFault};
-use std::alloc::Global;
 use std::thread::Threads;
 use wh_bound_change::Modification;
 use wh_exec::Source;
@@ -47,7 +46,7 @@ pub fn effect<R: Threads + Sync, D: Disk>(
     ensures counts { Counts (faults_of D.Disk fetch.old) (faults_of D.Disk fetch.new) result }
 {
     let source = source_rows(workers, change, sources, fetch)?;
-    let found = effect_over(workers.alloc, change, target, source);
+    let found = effect_over(workers, change, target, source);
     Ok(found)
 }
 
@@ -82,8 +81,8 @@ fn source_rows<R: Threads + Sync, D: Disk>(
 
 // What a change does, over the rows of its query.
 #[tactic(auto, unfolding(wh_effect::specs::Effect::effect))]
-fn effect_over(
-    alloc: Global,
+fn effect_over<R: Threads + Sync>(
+    workers: &Workers<'_, R>,
     change: &Modification,
     target: &[&Partition],
     source: Option<Vec<Row>>,
@@ -93,6 +92,7 @@ fn effect_over(
         → Gives result
         (meaning.effect (change_of change.now) (targets_of target.now) instance) }
 {
+    let alloc = workers.alloc;
     let Some(source) = source else {
         return Err(EffectFault::NumberOutOfRange);
     };
@@ -107,12 +107,12 @@ fn effect_over(
         }
         Modification::Update(condition, parts) => {
             let condition = Condition::new(condition);
-            Ok(updated(alloc, &condition, parts, target)?)
+            Ok(updated(workers, &condition, parts, target)?)
         }
         Modification::Delete(condition) => {
             let condition = Condition::new(condition);
-            Ok(deleted(alloc, &condition, target)?)
+            Ok(deleted(workers, &condition, target)?)
         }
-        Modification::Merge(_, on, clauses) => merged(alloc, on, clauses, target, &source),
+        Modification::Merge(_, on, clauses) => merged(workers, on, clauses, target, &source),
     }
 }

@@ -7,12 +7,36 @@ ghost use Rattle.wh_part.specs.View.{numbered_of};
 ghost use Rattle.wh_scalar.specs.View.{scalar_of};
 
 use crate::Effect;
+use crate::pieces::turned;
 use std::alloc::Global;
+use std::thread::Threads;
 use wh_part::{NumberedRow, Partition};
 use wh_scalar::{Condition, EvalFault};
+use wh_workers::Workers;
 
+/// Of many rows several workers take a piece of the partitions each.
+pub(crate) fn deleted<R: Threads + Sync>(
+    workers: &Workers<'_, R>,
+    condition: &Condition<'_>,
+    target: &[&Partition],
+) -> Result<Effect, EvalFault>
+    ensures { Shows effect_of result
+        (meaning.turned (meaning.deleted (scalar_of condition.now)) (targets_of target.now)) }
+{
+    let alloc = workers.alloc;
+    turned(
+        workers,
+        target,
+        &|piece: &[&Partition]| -> Result<Effect, EvalFault>
+            ensures { Shows effect_of result (meaning.turned
+                (meaning.deleted (scalar_of condition.entry.now)) (targets_of piece.now)) }
+        { deleted_in(alloc, condition, piece) },
+    )
+}
+
+// What becomes of these partitions' rows.
 #[tactic(auto, using(crate::proofs::EffectLaws::partition_fails))]
-pub(crate) fn deleted(
+fn deleted_in(
     alloc: Global,
     condition: &Condition<'_>,
     target: &[&Partition],

@@ -58,6 +58,18 @@ impl Settled {
         Ok(())
     }
 
+    /// Adds what the rows behind these come to.
+    pub(crate) fn append(&mut self, other: Settled) -> Result<(), AllocError>
+        ensures { OnOk result
+            (settled_of self.new ≡ after (settled_of self.old) (settled_of other)) }
+    {
+        let Settled { ambiguous, effect } = other;
+        if self.ambiguous.is_none() {
+            self.ambiguous = ambiguous;
+        }
+        self.effect.append(effect)
+    }
+
     /// The effect with the rows that are added.
     pub(crate) fn adding(self, added: Vec<Row>) -> Result<Effect, EffectFault>
         ensures { Gives result (outcome (settled_of self) added.items) }

@@ -56,4 +56,20 @@ impl Effect {
         self.changed.push(NumberedRow { number, row })?;
         Ok(())
     }
+
+    /// Adds the effect of the rows behind these.
+    pub(crate) fn append(&mut self, other: Effect) -> Result<(), AllocError>
+        ensures { OnOk result
+            (effect_of self.new ≡ before (effect_of self.old) (effect_of other)) }
+    {
+        let Effect {
+            mut removed,
+            mut changed,
+            mut added,
+        } = other;
+        self.removed.append(&mut removed)?;
+        self.changed.append(&mut changed)?;
+        self.added.append(&mut added)?;
+        Ok(())
+    }
 }

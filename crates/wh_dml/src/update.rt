@@ -8,13 +8,40 @@ ghost use Rattle.wh_part.specs.View.{numbered_of};
 ghost use Rattle.wh_scalar.specs.View.{scalar_of};
 
 use crate::Effect;
+use crate::pieces::turned;
 use std::alloc::Global;
+use std::thread::Threads;
 use wh_aggregate::values_on;
 use wh_part::{NumberedRow, Partition};
 use wh_scalar::{Condition, EvalFault, Scalar};
+use wh_workers::Workers;
 
+/// Of many rows several workers take a piece of the partitions each.
+pub(crate) fn updated<R: Threads + Sync>(
+    workers: &Workers<'_, R>,
+    condition: &Condition<'_>,
+    parts: &[Scalar],
+    target: &[&Partition],
+) -> Result<Effect, EvalFault>
+    ensures { Shows effect_of result (meaning.turned
+        (meaning.updated (scalar_of condition.now) (scalars_of parts.now))
+        (targets_of target.now)) }
+{
+    let alloc = workers.alloc;
+    turned(
+        workers,
+        target,
+        &|piece: &[&Partition]| -> Result<Effect, EvalFault>
+            ensures { Shows effect_of result (meaning.turned
+                (meaning.updated (scalar_of condition.entry.now) (scalars_of parts.entry.now))
+                (targets_of piece.now)) }
+        { updated_in(alloc, condition, parts, piece) },
+    )
+}
+
+// What becomes of these partitions' rows.
 #[tactic(auto, using(crate::proofs::EffectLaws::partition_fails))]
-pub(crate) fn updated(
+fn updated_in(
     alloc: Global,
     condition: &Condition<'_>,
     parts: &[Scalar],

@@ -15,7 +15,7 @@ pub use due::due_table;
 pub use dynamic::Dynamic;
 pub use kept::{GroupsChange, Kept};
 pub use query::{DynamicQuery, NamedSource};
-pub use reached::{brought, upstream, upstream_of_new};
+pub use reached::{brought, upstream, upstream_of_new, watched_at};
 pub use reads::ids_read;
 pub use state::DynamicState;
 pub use watched::Watched;

@@ -81,8 +81,9 @@ fn reach(
     Ok(())
 }
 
-// What a schedule looks at of the dynamic table of an id.
-pub(crate) fn watched_at<'a>(all: &[Option<Watched<'a>>], id: u32) -> Option<Watched<'a>>
+/// What a schedule looks at of the dynamic table of an id, if there is one. `all` are the dynamic
+/// tables by their ids from 1.
+pub fn watched_at<'a>(all: &[Option<Watched<'a>>], id: u32) -> Option<Watched<'a>>
     ensures { option_map watched_of result ≡ moments.watched_at (dynamics_in all.now) id }
 {
     if id == 0 {

@@ -2,6 +2,7 @@
 --     takes_none, takes_on        none of them, and one part behind another
 --     lacks_none, lacks_on, lacks_first   undefined rows, and a part of them that is undefined
 --     pours_on, feeds_on          the same of what pouring and feeding give
+--     pours_first                 pouring that stops in the first part
 --     fed_as                      what pouring gives, as a run answers it
 --     rows_taken, groups_taken    into each kind of sink
 --     answers_none, answers_some  what a sink answers that was empty first
@@ -95,6 +96,11 @@ pub pours_on : (first mid last : Sink) (one two : Option Bag) (result : Result (
 pours_on first mid last one two (Ok done) here next = takes_on here next
 pours_on first mid last one two (Err NumberOutOfRange) here next = lacks_on here next
 pours_on first mid last one two (Err OutOfMemory) here next = tt
+
+pub pours_first : (first mid : Sink) (one two : Option Bag) (fault : EvalFault)
+    → Pours (Err fault) first mid one → Pours (Err fault) first mid (beside one two)
+pours_first first mid one two NumberOutOfRange here = lacks_first two here
+pours_first first mid one two OutOfMemory here = tt
 
 pub feeds_on : (first mid last : Sink) (one two : Option Bag) (result : Result (Option (Unit {0})) FetchFault)
     → Takes first mid one → Feeds result mid last two → Feeds result first last (beside one two)

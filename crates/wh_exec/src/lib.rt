@@ -28,4 +28,4 @@ pub use collecting::collected;
 pub use columns::are_columns;
 pub use right_index::RightIndex;
 pub use running::run;
-pub use source::{Parts, Source};
+pub use source::{Loaded, Parts, Source};

@@ -9,6 +9,7 @@ ghost use Rattle.wh_exec.specs.Source.{parts_bag};
 ghost use Rattle.wh_exec.specs.Step.{through};
 ghost use Rattle.wh_exec.specs.Sink.{Pours};
 
+use crate::Loaded;
 use crate::sink::{Sink, put_in};
 use crate::step::{Step, stepped};
 use std::alloc::{AllocError, Global};
@@ -119,6 +120,20 @@ pub(crate) fn pour_loaded<R: Threads + Sync>(
         put_numbered(&mut kept, part.rows())?;
     }
     pour(workers, kept, steps, sink)
+}
+
+/// The same of a source that was loaded.
+pub(crate) fn pour_at_hand<R: Threads + Sync>(
+    workers: &Workers<'_, R>,
+    parts: &Loaded<'_>,
+    steps: &[Step<'_>],
+    sink: &mut Sink<'_>,
+) -> Result<(), EvalFault>
+    ensures { Pours result sink.old sink.new (through steps.now
+        (Some (parts_bag (loaded_of parts.now.loaded.now ++ parts.now.made.now)))) }
+{
+    pour_loaded(workers, parts.loaded, steps, sink)?;
+    pour_parts(workers, parts.made, steps, sink)
 }
 
 fn kept_numbered<'a>(alloc: Global, rows: &'a [NumberedRow]) -> Result<Vec<Tuple<'a>>, AllocError>

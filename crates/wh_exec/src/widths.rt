@@ -1,6 +1,7 @@
 //! How many values rows have, as far as it is known before they are read. No clause needs it.
-use crate::{Parts, Source};
+use crate::{Loaded, Parts, Source};
 use wh_algebra::{Operator, Physical};
+use wh_part::Partition;
 
 /// Of the rows of a plan.
 pub(crate) fn width_of(plan: &Physical, sources: &[Source<'_>]) -> usize {
@@ -22,6 +23,7 @@ pub(crate) fn width_of(plan: &Physical, sources: &[Source<'_>]) -> usize {
 fn source_width(source: &Source<'_>) -> usize {
     match source {
         Source::Parts(parts) => parts_width(parts),
+        Source::Loaded(parts) => loaded_width(parts),
         Source::Rows(rows) => match rows.first() {
             Some(row) => row.len(),
             None => 0,
@@ -30,11 +32,26 @@ fn source_width(source: &Source<'_>) -> usize {
 }
 
 fn parts_width(parts: &Parts<'_>) -> usize {
-    if let Some(filed) = parts.filed.first() {
-        return filed.meta().columns.len();
+    match parts.filed.first() {
+        Some(filed) => filed.meta().columns.len(),
+        None => made_width(parts.made),
     }
-    match parts.made.first() {
-        Some(part) => part.rows()[0].row.len(),
+}
+
+fn loaded_width(parts: &Loaded<'_>) -> usize {
+    match parts.loaded.first() {
+        Some(part) => part_width(part),
+        None => made_width(parts.made),
+    }
+}
+
+fn made_width(made: &[Partition]) -> usize {
+    match made.first() {
+        Some(part) => part_width(part),
         None => 0,
     }
+}
+
+fn part_width(part: &Partition) -> usize {
+    part.rows()[0].row.len()
 }

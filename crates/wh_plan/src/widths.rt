@@ -4,13 +4,14 @@ ghost use Rattle.std.specs.Bool.{OnTrue};
 ghost use Rattle.wh_meaning.specs.Query as meaning;
 ghost use Rattle.wh_scalar.specs.View.{scalar_of};
 ghost use Rattle.wh_algebra.specs.View.{scalars_of, query_of};
-ghost use Rattle.wh_filed.specs.Filed.{partitions_at};
+ghost use Rattle.wh_filed.specs.Filed.{partitions_at, loaded_of};
 ghost use Rattle.wh_moves.specs.Widths.{AreWide, IsWide, HasWidth};
 ghost use Rattle.wh_exec.specs.Source.{bag_in, instance_in};
 ghost use Rattle.wh_plan.specs.Widths.{IsPartWide, ArePartsWide};
 
+use std::sync::Arc;
 use wh_algebra::Query;
-use wh_exec::{Parts, Source};
+use wh_exec::{Loaded, Parts, Source};
 use wh_filed::FiledPartition;
 use wh_part::Partition;
 use wh_scalar::Scalar;
@@ -93,6 +94,7 @@ fn source_width(source: &Source<'_>) -> Option<usize>
 {
     match source {
         Source::Parts(parts) => parts_width(parts),
+        Source::Loaded(parts) => loaded_width(parts),
         Source::Rows(rows) => rows_width(rows),
     }
 }
@@ -112,13 +114,42 @@ fn parts_width(parts: &Parts<'_>) -> Option<usize>
 }
 
 fn first_width(parts: &Parts<'_>) -> Option<usize> {
-    if let Some(filed) = parts.filed.first() {
-        return Some(filed.meta().columns.len());
+    match parts.filed.first() {
+        Some(filed) => Some(filed.meta().columns.len()),
+        None => first_made_width(parts.made),
     }
-    match parts.made.first() {
-        Some(part) => Some(part.rows()[0].row.len()),
+}
+
+fn loaded_width(parts: &Loaded<'_>) -> Option<usize>
+    ensures { IfSome result (λ width. ArePartsWide width
+        (loaded_of parts.now.loaded.now ++ parts.now.made.now)) }
+{
+    let Some(width) = first_loaded_width(parts) else {
+        return None;
+    };
+    if are_loaded_wide(parts.loaded, width) && are_made_wide(parts.made, width) {
+        Some(width)
+    } else {
+        None
+    }
+}
+
+fn first_loaded_width(parts: &Loaded<'_>) -> Option<usize> {
+    match parts.loaded.first() {
+        Some(part) => Some(first_row_width(part)),
+        None => first_made_width(parts.made),
+    }
+}
+
+fn first_made_width(made: &[Partition]) -> Option<usize> {
+    match made.first() {
+        Some(part) => Some(first_row_width(part)),
         None => None,
     }
+}
+
+fn first_row_width(part: &Partition) -> usize {
+    part.rows()[0].row.len()
 }
 
 fn are_filed_wide(filed: &[&FiledPartition], width: usize) -> bool
@@ -138,21 +169,32 @@ fn is_filed_wide(filed: &FiledPartition, width: usize) -> bool
     filed.meta().columns.len() == width
 }
 
-fn are_made_wide(made: &[Partition], width: usize) -> bool
-    ensures { OnTrue result (ArePartsWide width made.now) }
+fn are_loaded_wide(loaded: &[Arc<Partition>], width: usize) -> bool
+    ensures { OnTrue result (ArePartsWide width (loaded_of loaded.now)) }
 {
-    for place in 0..made.len() {
-        if !is_made_wide(&made[place], width) {
+    for place in 0..loaded.len() {
+        if !is_part_wide(&loaded[place], width) {
             return false;
         }
     }
     true
 }
 
-fn is_made_wide(made: &Partition, width: usize) -> bool
-    ensures { OnTrue result (IsPartWide width made.now) }
+fn are_made_wide(made: &[Partition], width: usize) -> bool
+    ensures { OnTrue result (ArePartsWide width made.now) }
 {
-    let rows = made.rows();
+    for place in 0..made.len() {
+        if !is_part_wide(&made[place], width) {
+            return false;
+        }
+    }
+    true
+}
+
+fn is_part_wide(part: &Partition, width: usize) -> bool
+    ensures { OnTrue result (IsPartWide width part.now) }
+{
+    let rows = part.rows();
     for place in 0..rows.len() {
         if rows[place].row.len() != width {
             return false;

@@ -355,7 +355,7 @@ asks_wider Own Wider objects moment id before after so asks = record {
   asks = moves_wider Own Wider objects _ _ _ _ before after so asks.asks;
 }
 
-asks_next : (Own : Filed → Type 0) (objects : List (Bor StoredObject)) (moment : ℕ) (ids : List ℕ) (id : ℕ)
+pub asks_next : (Own : Filed → Type 0) (objects : List (Bor StoredObject)) (moment : ℕ) (ids : List ℕ) (id : ℕ)
     (before between after : List PartId)
     → AsksOfAll Own objects moment ids before between
     → AsksOf Own objects moment id between after

@@ -11,3 +11,5 @@ mod GroupLaws
 pub mod StandLaws
 mod MovesLaws
 mod AskLaws
+mod WaveLaws
+mod DoneLaws

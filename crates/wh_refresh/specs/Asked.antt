@@ -16,6 +16,7 @@
 --     AsksOf, AsksOfAll   what the table of an id asks for, and each of several, one after the other
 --     IsCountedBy, AreCounted     one that is brought by nothing new, or by the change of such a query, and several
 --     actions_of          what is done to those brought so far
+--     by_waves            the ids of a refresh, wave by wave
 --     AsksAsTold          so of a refresh that tells of each table that it is brought so
 --     AsksAsBrought       and of one that may fail
 use Rattle.std.specs.Prelude.{◌≡◌, ◌⊎◌, ◌≤◌, ℕ, List, [], ◌∷◌, ◌++◌, map, Contains, slice_index_or as get_or}
@@ -33,11 +34,13 @@ use Rattle.wh_reply.specs.Reply.{Refreshed, RefreshAction, Full, Incremental, No
 use Rattle.wh_reply.specs.View.{action_view, refreshed_view}
 use Rattle.wh_exec.specs.Asked.{asked_for}
 use Rattle.wh_delta.specs.Moved.{same_number}
-use Rattle.wh_state.specs.State.{content_in}
+use Rattle.wh_state.specs.State.{Object, content_in}
 use Rattle.wh_state.specs.Stored.{StoredVersion}
 use Rattle.wh_state.specs.Objects.{table_at, dynamic_at}
 use Rattle.wh_state.specs.Dynamic.{Dynamic, ids_read}
 use Rattle.wh_state.specs.Bound.{query_bound}
+use Rattle.wh_moment.specs.Upstream.{dynamics_of}
+use Rattle.wh_waves.specs.Waves.{waves, all_in}
 use Rattle.wh_version.specs.Times.{data_at}
 use Rattle.wh_version.specs.Moved.{IsMoved}
 use Rattle.wh_catalog.specs.declared.object.StoredObject.{StoredObject}
@@ -133,9 +136,12 @@ AreCounted objects _ _ = ⊥
 abbrev pub actions_of : List Brought → List RefreshAction
 actions_of brought = map (λ one. action_view one.action) brought
 
+abbrev pub by_waves : List Object → List ℕ → List ℕ
+by_waves objects ids = all_in (waves (dynamics_of objects) ids)
+
 abbrev pub AsksAsTold : List (Bor StoredObject) → ℕ → List ℕ → List PartId → List PartId → List Refreshed → Type 0
 AsksAsTold objects moment ids before after lines = AreCounted objects ids (map (λ line. line.action) lines)
-    → AsksOfAll (IsFiledIn objects ids) objects moment ids before after
+    → AsksOfAll (IsFiledIn objects ids) objects moment (by_waves (objects_in objects) ids) before after
 
 abbrev pub AsksAsBrought : List (Bor StoredObject) → ℕ → List ℕ → List PartId → List PartId → Refreshing → Type 0
 AsksAsBrought objects moment ids before after (Fails why) = Unit {0}

@@ -9,3 +9,4 @@ pub mod Brought
 pub mod Refreshing
 pub mod Writing
 pub mod Standing
+pub mod Waves

@@ -31,40 +31,8 @@ use wh_fetch::{Fetch, FetchFault};
 use wh_reply::RefreshAction;
 use wh_workers::Workers;
 
-/// Those of some ids, or None where an evaluation is undefined.
-pub(crate) fn bring_all<R: Threads + Sync, F: Fetch>(
-    workers: &Workers<'_, R>,
-    objects: &[&StoredObject],
-    moment: u64,
-    ids: &[u32],
-    fetch: &mut F,
-) -> Result<Option<Vec<Brought>>, FetchFault>
-    requires { AllCovered (F.covers fetch.old) (filed_at_objects objects.now) }
-    ensures brought { AllShownBy (F.contents fetch.old) (filed_at_objects objects.now)
-        → AllStand (objects_in objects.now) → IfOk result (λ found. (stamp : ℕ)
-        → RiseAbove 0 ids.now → BringsOr (stored_in objects.now) found
-        (machine.brought_all stamp moment ids.now (objects_in objects.now))) }
-    ensures sound { AllShownBy (F.contents fetch.old) (filed_at_objects objects.now)
-        → F.damage fetch.new ≡ F.damage fetch.old }
-    ensures asks { IfOk result (λ found. IfSome found (λ all.
-        AreCounted objects.now ids.now (actions_of all.items)
-        → AsksOfAll (IsFiledIn objects.now ids.now) objects.now moment ids.now
-        (F.asked fetch.old) (F.asked fetch.new))) }
-    ensures same { F.contents fetch.new ≡ F.contents fetch.old }
-    ensures goes { F.stays fetch.old fetch.new }
-    ensures counts { Counts (F.faults fetch.old) (F.faults fetch.new) result }
-{
-    let mut brought = Vec::new(workers.alloc);
-    for id in ids {
-        match bring(workers, objects, &brought, moment, *id, fetch)? {
-            Some(one) => brought.push(one)?,
-            None => return Ok(None),
-        }
-    }
-    Ok(Some(brought))
-}
-
-fn bring<R: Threads + Sync, F: Fetch>(
+/// One, over those before it; None where its query is undefined.
+pub(crate) fn bring<R: Threads + Sync, F: Fetch>(
     workers: &Workers<'_, R>,
     objects: &[&StoredObject],
     before: &[Brought],

@@ -15,6 +15,7 @@ mod rebase;
 mod refreshing;
 mod rows;
 mod sources;
+mod waves;
 mod writing;
 
 pub use objects::{all_objects, dynamic_at, name_at};

@@ -15,9 +15,9 @@ ghost use Rattle.wh_refresh.specs.Refreshing.{besides, RefreshesAs, AreRead};
 ghost use Rattle.wh_refresh.specs.Standing.{AllStand};
 ghost use Rattle.wh_refresh.specs.Asked.{AsksAsBrought};
 
-use crate::bringing::bring_all;
 use crate::limits::number_refusal;
 use crate::objects::{dynamic_at, is_live_at, name_at, watched};
+use crate::waves::bring_all;
 use crate::writing::{changes, lines};
 use std::alloc::{AllocError, Global};
 use std::thread::Threads;
@@ -81,7 +81,7 @@ pub fn refresh<R: Threads + Sync, F: Fetch>(
         return Ok(Refreshing::Fails(why));
     }
     let ids = brought(alloc, &all, id, moment)?;
-    let Some(all) = bring_all(workers, objects, moment, &ids, fetch)? else {
+    let Some(all) = bring_all(workers, objects, &all, moment, &ids, fetch)? else {
         return Ok(Refreshing::Fails(Refusal::NumberOutOfRange));
     };
     if let Some(why) = number_refusal(objects, &all) {

@@ -1,4 +1,4 @@
-ghost use Rattle.std.specs.Prelude.{◌≤◌};
+ghost use Rattle.std.specs.Prelude.{◌≡◌, ◌≤◌};
 
 use std::alloc::Global;
 use std::thread::Threads;
@@ -11,4 +11,17 @@ pub struct Workers<'a, R: Threads + Sync> {
     pub alloc: Global,
     pub count: u32,
     ghost some: { 1 ≤ count },
+}
+
+impl<'a, R: Threads + Sync> Workers<'a, R> {
+    /// One of them alone.
+    pub fn alone(&self) -> Workers<'a, R>
+        ensures { result.count ≡ 1 }
+    {
+        Workers {
+            rt: self.rt,
+            alloc: self.alloc,
+            count: 1,
+        }
+    }
 }

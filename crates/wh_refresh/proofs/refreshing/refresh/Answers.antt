@@ -19,7 +19,7 @@ use Rattle.wh_refresh.specs.Brought.{AreBrought, Brings, BringsOr}
 use Rattle.wh_refresh.specs.Refreshing.{besides}
 use Rattle.wh_refresh.specs.declared.brought.Brought.{Brought}
 use Rattle.wh_refresh.specs.declared.refreshing.Asked.{Asked}
-use Rattle.wh_refresh.specs.Asked.{IsFiledIn, AreCounted, AsksOfAll}
+use Rattle.wh_refresh.specs.Asked.{IsFiledIn, AreCounted, AsksOfAll, by_waves}
 use Rattle.wh_refresh.proofs.AskLaws.{told_actions}
 use Rattle.wh_refresh.proofs.RefreshLemmas.{rises, above_rise}
 use Rattle.wh_refresh.proofs.refreshing.refresh.Given.{Over}
@@ -62,11 +62,21 @@ ids_brought objects all id moment given ids known is same = same ∙ is ∙ ap (
 
 brings_found : (stored : List StoredObject) (s : State) (objects : List Object) (id moment : ℕ) (ids : List ℕ)
     (all : Option (Vec Brought Global)) → ids ≡ brought (dynamics_of objects) id moment
-    → ((stamp : ℕ) → RiseAbove 0 ids → BringsOr stored all (brought_all stamp moment ids objects))
+    → ((stamp : ℕ) → BringsOr stored all (brought_all stamp moment ids objects))
     → BringsOr stored all (found s objects id moment)
 brings_found stored s objects id moment ids all is brings =
-    subst (λ (l : List ℕ). BringsOr stored all (brought_all s.last moment l objects)) is
-    (brings s.last (subst (RiseAbove 0) (sym is) (rises (dynamics_of objects) id moment)))
+    subst (λ (l : List ℕ). BringsOr stored all (brought_all s.last moment l objects)) is (brings s.last)
+
+pub bring_all-requires-clause-watched : goal.bring_all-requires-clause-watched
+bring_all-requires-clause-watched g c κs bounds = ap dynamics_in c.deref-5.ensures.value ∙ c.in_ok-all.ensures
+
+pub bring_all-requires-clause-rising : goal.bring_all-requires-clause-rising
+bring_all-requires-clause-rising g c κs bounds =
+    let objects = objects_in c.args.objects.now in
+    let given = ids_brought objects (dynamics_in c.deref-4.result.now) c.args.id c.args.moment c.deref-6.result.now
+    c.in_ok-ids-2.ids.items (ap dynamics_in c.deref-4.ensures.value ∙ c.in_ok-all.ensures) c.in_ok-ids-2.ensures
+    c.deref-6.ensures.value in
+    subst (RiseAbove 0) (sym given) (rises (dynamics_of objects) c.args.id c.args.moment)
 
 pub returns-in-Some-clause-refreshed : goal.returns-in-Some-clause-refreshed
 returns-in-Some-clause-refreshed g c shown stand s same =
@@ -105,12 +115,12 @@ module _ (g : Over) (c : After-bring_all g) where
   objects = objects_in c.args.objects.now
 
   abbrev asked_ids : List ℕ
-  asked_ids = c.deref-5.result.now
+  asked_ids = c.deref-6.result.now
 
   given : asked_ids ≡ brought (dynamics_of objects) c.args.id c.args.moment
   given = ids_brought objects (dynamics_in c.deref-4.result.now) c.args.id c.args.moment asked_ids
       c.in_ok-ids-2.ids.items
-      (ap dynamics_in c.deref-4.ensures.value ∙ c.in_ok-all.ensures) c.in_ok-ids-2.ensures c.deref-5.ensures.value
+      (ap dynamics_in c.deref-4.ensures.value ∙ c.in_ok-all.ensures) c.in_ok-ids-2.ensures c.deref-6.ensures.value
 
   unrefused : (s : State) → s.objects ≡ objects
       → refresh s (besides c.args.asked s.objects c.args.id) c.args.id c.args.moment
@@ -154,7 +164,7 @@ returns-in-Some-number_refusal-clause-refreshed g c shown stand s same =
     ∙ ap (λ (why : Option Refusal). unless_past why (map (told_of (objects g after) moment) brings.brought)
     (flat_map (acts_of_one moment) brings.brought))
     (sym (c.number_refusal.ensures brings.brought
-    (subst (λ (all : List Brought). AreBrought stored all brings.brought) (sym c.deref-6.ensures.value) brings.are))
+    (subst (λ (all : List Brought). AreBrought stored all brings.brought) (sym c.deref-7.ensures.value) brings.are))
     ∙ ap (option_map refusal_view) c.in-Some-number_refusal.is)
 
 pub returns-clause-refreshed : goal.returns-clause-refreshed
@@ -179,10 +189,10 @@ returns-clause-refreshed g c shown stand s same =
       is = unrefused g after s same
           ∙ ap (refresh_by (objects g after) moment None) brings.is
           ∙ ap (λ (why : Option Refusal). unless_past why (map (told_of (objects g after) moment) brings.brought) acts)
-          (sym (c.number_refusal.ensures brings.brought (seen _ c.deref-6.ensures.value))
+          (sym (c.number_refusal.ensures brings.brought (seen _ c.deref-7.ensures.value))
           ∙ ap (option_map refusal_view) c.in_default-number_refusal.is)
           ∙ ap (λ (lines : List Refreshed). machine.Brings lines acts)
-          (sym (c.in_ok-lines.ensures.lines brings.brought (seen _ c.deref-7.ensures.value)));
+          (sym (c.in_ok-lines.ensures.lines brings.brought (seen _ c.deref-8.ensures.value)));
       written = c.in_ok-changes.ensures.written s.last brings.brought brings.are above;
     }
 
@@ -192,9 +202,9 @@ pub returns-clause-asks : goal.returns-clause-asks
 returns-clause-asks g c = λ counted.
     let after = (goal.at.returns-clause-asks g c).After-bring_all in
     let asks = rw c.in-Some-3.is at c.in_ok-all-2.ensures.asks in
-    let told = c.in_ok-lines.ensures.actions ∙ ap (map (λ (one : Brought). one.action)) c.deref-7.ensures.value in
-    subst (λ (ids : List ℕ). AsksOfAll (IsFiledIn c.args.objects.now ids) c.args.objects.now c.args.moment ids
-    (g.F.Fetch.asked c.args.fetch.now) (g.F.Fetch.asked c.bring_all.new.fetch)) (given g after)
+    let told = c.in_ok-lines.ensures.actions ∙ ap (map (λ (one : Brought). one.action)) c.deref-8.ensures.value in
+    subst (λ (ids : List ℕ). AsksOfAll (IsFiledIn c.args.objects.now ids) c.args.objects.now c.args.moment
+    (by_waves (objects_in c.args.objects.now) ids) (g.F.Fetch.asked c.args.fetch.now) (g.F.Fetch.asked c.bring_all.new.fetch)) (given g after)
     (asks (subst (λ (acts : List RefreshAction). AreCounted c.args.objects.now (asked_ids g after) acts)
     (told_actions c.in_ok-lines.lines.items c.in-Some-3.all.items told)
     (subst (λ (ids : List ℕ). AreCounted c.args.objects.now ids

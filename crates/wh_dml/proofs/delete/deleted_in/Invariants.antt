@@ -4,7 +4,7 @@ use Rattle.wh_scalar.specs.View.{scalar_of}
 use Rattle.wh_effect.specs.Effect as meaning
 use Rattle.wh_dml.specs.View.{effect_of, targets_of}
 use Rattle.wh_dml.specs.Steps.{before}
-use Rattle.wh_dml.proofs.delete.deleted.Given as goal
+use Rattle.wh_dml.proofs.delete.deleted_in.Given as goal
 
 abbrev pub invariant-loop-partition : goal.invariant-loop-partition
 invariant-loop-partition l =

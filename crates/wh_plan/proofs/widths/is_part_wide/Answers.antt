@@ -2,7 +2,7 @@ use Rattle.std.proofs.Common.{◌≡◌, length, subst}
 use Rattle.std.specs.List.{AllByRecursion}
 use Rattle.wh_part.specs.View.{numbered_of}
 use Rattle.wh_plan.proofs.WidthLaws.{none_left, all_mapped}
-use Rattle.wh_plan.proofs.widths.is_made_wide.Goals as goal
+use Rattle.wh_plan.proofs.widths.is_part_wide.Goals as goal
 
 pub returns : goal.returns
 returns c =
