@@ -19,6 +19,7 @@ SHIM = r"""
 #define _GNU_SOURCE
 #include <dlfcn.h>
 #include <errno.h>
+#include <fcntl.h>
 #include <limits.h>
 #include <stdio.h>
 #include <stdlib.h>
@@ -39,7 +40,9 @@ static int fails(int fd) {
   path[length] = 0;
   if (strcmp(path, name)) return 0;
   if (failing < 0) failing = atol(number);
-  return ++made == failing;
+  if (++made != failing) return 0;
+  if (getenv("FAIL_MARK")) close(creat(getenv("FAIL_MARK"), 0600));
+  return 1;
 }
 
 #define CALL(type, name, params, args)                        \
@@ -64,8 +67,8 @@ CALL(int, ftruncate64, (int fd, off_t n), (fd, n))
 
 
 def ends_of(file):
-    """Where the header and each record end: 01, the length of the payload in 8 bytes, the payload."""
-    ends, at = [8], 8
+    """Where the 7 bytes of the header and each record end: 01, the length of the payload in 8 bytes, the payload."""
+    ends, at = [7], 7
     while at < len(file) and file[at] == 1:
         at += 9 + int.from_bytes(file[at + 1 : at + 9], "big")
         ends.append(at)
@@ -105,20 +108,20 @@ def fail_each(script, workers, work, shim):
     bad, at, statuses = 0, 0, {}
     while True:
         at += 1
-        db = os.path.join(work, f"db{at}")
-        done = run(db, script, workers, LD_PRELOAD=shim, FAIL_FILE=db, FAIL_AT=str(at))
-        if done.returncode in (0, 1) and done.stdout == whole.stdout and read(db) == file:
-            again = run(db, script, workers, LD_PRELOAD=shim, FAIL_FILE=db + "?", FAIL_AT="1")
+        db, mark = os.path.join(work, f"db{at}"), os.path.join(work, "mark")
+        done = run(db, script, workers, LD_PRELOAD=shim, FAIL_FILE=db, FAIL_AT=str(at), FAIL_MARK=mark)
+        if not os.path.exists(mark):
             os.remove(db)
-            if again.returncode in (0, 1):
-                break
+            break
+        os.remove(mark)
         statuses[done.returncode] = statuses.get(done.returncode, 0) + 1
         opened = run(db, b"", workers)
         left = read(db) if os.path.exists(db) else b""
-        count = len(ends_of(left)) - 1 if len(left) >= 8 else 0
+        # A file of at most 8 bytes holds no record, whatever they are.
+        count = len(ends_of(left)) - 1 if len(left) > 8 else 0
         least = max(commits for length, commits in fronts if length <= len(done.stdout))
         is_front = whole.stdout.startswith(done.stdout)
-        is_prefix = left[: ends[count]] == file[: ends[count]] if count < len(ends) else False
+        is_prefix = len(left) <= 8 or (count < len(ends) and left[: ends[count]] == file[: ends[count]])
         if opened.returncode not in (0, 1) or not is_front or not is_prefix or count < least:
             bad += 1
             print(f"{workers} workers, call {at}: status {done.returncode}, a front: {is_front}, a prefix: {is_prefix}, {count} commits of at least {least}")
@@ -139,7 +142,11 @@ def main():
         with open(source, "w") as out:
             out.write(SHIM)
         subprocess.run(["cc", "-O1", "-shared", "-fPIC", "-o", shim, source, "-ldl"], check=True)
-        return 1 if sum(fail_each(script, workers, work, shim) for workers in sys.argv[2:] or ["1", "7"]) else 0
+        bad = 0
+        for workers in sys.argv[2:] or ["1", "7"]:
+            with tempfile.TemporaryDirectory(dir=work) as own:
+                bad += fail_each(script, workers, own, shim)
+        return 1 if bad else 0
 
 
 if __name__ == "__main__":
