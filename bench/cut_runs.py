@@ -1,7 +1,8 @@
 #!/usr/bin/env python3
 """Cuts each script into two runs over one file, behind each of its events, and looks at the replies of both.
 
-usage: bench/cut_runs.py SCRIPT [SCRIPT ..]      the program is crates/bokzarn/out/bokzarn, or what PROGRAM names
+usage: bench/cut_runs.py SCRIPT [SCRIPT ..]      the program is crates/bokzarn/out/bokzarn, or what PROGRAM names; it has 1 worker, or as many as
+WORKERS says
 
 The second run goes on behind the last commit of the first: what came behind it is in no file, so its stamps are taken anew,
 and those events are sent again. Up to that commit the replies have to be those of one run over the whole script, and from
@@ -14,6 +15,7 @@ import sys
 import tempfile
 
 HERE = os.path.dirname(os.path.abspath(__file__))
+WORKERS = os.environ.get("WORKERS", "1")
 PROGRAM = os.environ.get("PROGRAM") or os.path.join(HERE, "..", "crates", "bokzarn", "out", "bokzarn")
 
 
@@ -62,7 +64,7 @@ def parts_of(text):
 
 
 def run(db, parts):
-    done = subprocess.run([PROGRAM, db, "run"], input=b"".join(parts), capture_output=True)
+    done = subprocess.run([PROGRAM, db, "run", "--workers", WORKERS], input=b"".join(parts), capture_output=True)
     if done.returncode not in (0, 1):
         sys.exit(f"a run ended with status {done.returncode}: {done.stderr.decode()}")
     return done.stdout

@@ -3,7 +3,7 @@
 --     beside_among, beside_own     by what was asked for; of a table's own partitions alone
 --     beside_wider               besides more
 --     by_places                  of what moved in the source at each place
---     by_moves                   over what came and what went
+--     moves_among, by_moves      over what came and what went
 --     no_change                  no call
 --     moves_wider                besides more
 --     none_filed                 no partition is of a table of no id
@@ -15,13 +15,13 @@
 --     by_a_change                what is brought by a change, unless there is nothing new
 --     asks_wider                 of a table, besides more
 --     told_actions               what the lines tell is done
---     ids_more, asks_more        of several tables, with the next one
+--     asks_next                  of several tables, with the next one
 --     by_sources                 over what two moments' sources hold, some of which were brought
-use Rattle.std.proofs.Common.{◌≡◌, ◌⊎◌, inl, inr, ℕ, zero, suc, ◌+◌, ◌≤◌, Bool, true, false, cond, List, [], ◌∷◌, ◌++◌, ◌<◌, length, take, drop, map, Contains}
+use Rattle.std.proofs.Common.{◌≡◌, ◌⊎◌, inl, inr, ℕ, zero, suc, ◌+◌, ◌≤◌, Bool, true, false, cond, List, [], ◌∷◌, ◌++◌, length, take, drop, map, Contains}
 use Rattle.std.proofs.Common.{Option, Some, None, refl, sym, ap, subst, ◌∙◌, append_assoc, get_or, arith}
-use Rattle.std.specs.Prelude.{◌&&◌, ◌==◌, ◌-◌, OnSome}
+use Rattle.std.specs.Prelude.{◌==◌, ◌-◌, OnSome}
 use Rattle.std.specs.List.{AllByRecursion}
-use Rattle.std.proofs.lemmas.List.{append-nil, map-append, take-append-drop, take_more}
+use Rattle.std.proofs.lemmas.List.{append-nil, map-append}
 use Rattle.std.proofs.lemmas.List.Elements.{Contains-append_left, Contains-append_right}
 use Rattle.std.proofs.lemmas.Bool.{and_parts, eqb-true}
 use Rattle.std.proofs.lemmas.Simd.{map-map}
@@ -44,7 +44,7 @@ use Rattle.wh_refresh.specs.Objects.{objects_in, filed_at_id}
 use Rattle.wh_refresh.specs.Sources.{filed_by, views_held}
 use Rattle.wh_refresh.specs.Asked.{IsFiledIn, versions_at, Moves, AllMoved, StandsAt, IsBroughtIn, AllStanding}
 use Rattle.wh_refresh.specs.Asked.{ids_of, Besides, AsksBeside, AsksByMoves, AsksOfChange}
-use Rattle.wh_refresh.specs.Asked.{actions_of, IsCountedAt, IsCountedBy, AreCounted, AsksOf, AsksOfAll}
+use Rattle.wh_refresh.specs.Asked.{actions_of, IsCountedAt, IsCountedBy, AsksOf, AsksOfAll}
 use Rattle.wh_reply.specs.Reply as reply
 use Rattle.wh_reply.specs.View.{action_view, refreshed_view}
 use Rattle.wh_reply.specs.declared.reply.Refreshed.{Refreshed}
@@ -208,6 +208,18 @@ moved_by_place objects from to (id ∷ ids) [] went moved place = absurd moved
 moved_by_place objects from to (id ∷ ids) (c ∷ came) [] moved place = absurd moved
 
 -- over what came and what went
+pub moves_among : (Own : Filed → Type 0) (objects : List (Bor StoredObject)) (from to : ℕ) (ids : List ℕ) (q : Query)
+    (came went : List SourceHeld) (before after : List PartId)
+    → AllMoved objects from to ids came went
+    → AsksAmong (asked_for q (filed_in_view (views_held came)) ++ asked_for q (filed_in_view (views_held went)))
+    before after
+    → AsksByMoves Own objects from to ids q before after
+moves_among Own objects from to ids q came went before after moved =
+    let first = filed_in_view (views_held came) in
+    let then = filed_in_view (views_held went) in
+    by_places Own objects from to ids q first then (λ place. first place ++ then place)
+    (moved_by_place objects from to ids came went moved) (λ place. inl refl) before after
+
 pub by_moves : (Own : Filed → Type 0) (objects : List (Bor StoredObject)) (from to : ℕ) (ids : List ℕ) (q : Query)
     (came went : List SourceHeld) (comes goes : List Source) (before after : List PartId)
     → AllMoved objects from to ids came went
@@ -216,10 +228,7 @@ pub by_moves : (Own : Filed → Type 0) (objects : List (Bor StoredObject)) (fro
     → AsksAmong (asked_over q comes goes) before after
     → AsksByMoves Own objects from to ids q before after
 by_moves Own objects from to ids q came went comes goes before after moved came_is went_is asks =
-    let first = filed_in_view (views_held came) in
-    let then = filed_in_view (views_held went) in
-    by_places Own objects from to ids q first then (λ place. first place ++ then place)
-    (moved_by_place objects from to ids came went moved) (λ place. inl refl) before after
+    moves_among Own objects from to ids q came went before after moved
     (subst (λ names. AsksAmong names before after)
     (λ i. asked_by_views q comes (views_held came) came_is i ++ asked_by_views q goes (views_held went) went_is i) asks)
 
@@ -365,65 +374,6 @@ asks_next Own objects moment [] id before between after all one =
 asks_next Own objects moment (x ∷ ids) id before between after all one =
     (all.0, all.1, asks_next Own objects moment ids id all.0 between after all.2 one)
 
-in_front : (ids : List ℕ) (i id : ℕ) → Contains (take i ids) id → Contains ids id
-in_front ids i id there =
-    subst (λ (xs : List ℕ). Contains xs id) (take-append-drop i ids)
-    (Contains-append_left (take i ids) (drop i ids) id there)
-
-pub ids_more : (brought new : List Brought) (one : Brought) (ids : List ℕ) (i : ℕ) → i < length ids
-    → new ≡ brought ++ one ∷ []
-    → one.id ≡ get_or ids i 0
-    → ids_of brought ≡ take i ids
-    → ids_of new ≡ take (i + 1) ids
-ids_more brought new one ids i within pushed is so_far =
-    ap ids_of pushed
-    ∙ map-append (λ (b : Brought). b.id) brought (one ∷ [])
-    ∙ (λ k. so_far k ++ is k ∷ [])
-    ∙ sym (take_more ids i 0 within)
-
-counted_last : (objects : List (Bor StoredObject)) (ids : List ℕ) (id : ℕ) (actions : List reply.RefreshAction)
-    (action : reply.RefreshAction)
-    → AreCounted objects (ids ++ id ∷ []) (actions ++ action ∷ [])
-    → AreCounted objects ids actions × IsCountedBy objects id action
-counted_last objects [] id [] action counted = (tt, counted.0)
-counted_last objects [] id (other ∷ []) action counted = absurd counted.1
-counted_last objects [] id (other ∷ another ∷ actions) action counted = absurd counted.1
-counted_last objects (x ∷ []) id [] action counted = absurd counted.1
-counted_last objects (x ∷ y ∷ ids) id [] action counted = absurd counted.1
-counted_last objects (x ∷ ids) id (other ∷ actions) action counted =
-    let rest = counted_last objects ids id actions action counted.1 in ((counted.0, rest.0), rest.1)
-
--- with the next one
-pub asks_more : (objects : List (Bor StoredObject)) (moment : ℕ) (ids : List ℕ) (i : ℕ) (brought new : List Brought)
-    (one : Brought) (before between after : List PartId)
-    → i < length ids
-    → new ≡ brought ++ one ∷ []
-    → ids_of brought ≡ take i ids
-    → (AreCounted objects (take i ids) (actions_of brought)
-    → AsksOfAll (IsFiledIn objects ids) objects moment (take i ids) before between)
-    → (IsCountedBy objects (get_or ids i 0) (action_view one.action)
-    → AsksOf (IsFiledIn objects (ids_of brought ++ get_or ids i 0 ∷ [])) objects moment (get_or ids i 0) between after)
-    → AreCounted objects (take (i + 1) ids) (actions_of new)
-    → AsksOfAll (IsFiledIn objects ids) objects moment (take (i + 1) ids) before after
-asks_more objects moment ids i brought new one before between after within pushed so_far all last counted =
-    let id = get_or ids i 0 in
-    let next = take_more ids i 0 within in
-    let actions : actions_of new ≡ actions_of brought ++ action_view one.action ∷ [] =
-    ap actions_of pushed ∙ map-append (λ (b : Brought). action_view b.action) brought (one ∷ []) in
-    let counts = counted_last objects (take i ids) id (actions_of brought) (action_view one.action)
-    (subst (λ (acts : List reply.RefreshAction). AreCounted objects (take i ids ++ id ∷ []) acts) actions
-    (subst (λ (xs : List ℕ). AreCounted objects xs (actions_of new)) next counted)) in
-    subst (λ (xs : List ℕ). AsksOfAll (IsFiledIn objects ids) objects moment xs before after) (sym next)
-    (asks_next (IsFiledIn objects ids) objects moment (take i ids) id before between after (all counts.0)
-    (asks_wider (IsFiledIn objects (ids_of brought ++ id ∷ [])) (IsFiledIn objects ids) objects moment id between after
-    (λ f there. record {
-      id = there.id;
-      among = in_front ids (i + 1) there.id (subst (λ (xs : List ℕ). Contains xs there.id)
-          ((λ k. so_far k ++ id ∷ []) ∙ sym next) there.among);
-      filed = there.filed;
-    })
-    (last counts.1)))
-
 -- the lines tell the actions
 pub told_actions : (lines : List Refreshed) (all : List Brought)
     → map (λ line. line.action) lines ≡ map (λ one. one.action) all
@@ -513,6 +463,16 @@ module _ (objects : List (Bor StoredObject)) (brought : List ℕ) (from to : ℕ
   shown_parts (id ∷ ids) [] held before stand place = absurd before
   shown_parts (id ∷ ids) (s ∷ stood) [] before stand place = absurd stand
 
+  pub sources_among : (ids : List ℕ) (q : Query) (stood held : List SourceHeld) (before after : List PartId)
+      → AllStanding objects [] from ids stood
+      → AllStanding objects brought to ids held
+      → AsksAmong (asked_for q (first_at held stood) ++ asked_for q (first_at stood held)) before after
+      → AsksByMoves (IsFiledIn objects brought) objects from to ids q before after
+  sources_among ids q stood held before after was is =
+      by_places (IsFiledIn objects brought) objects from to ids q (first_at held stood) (first_at stood held)
+      (shown_at ids stood held is) (shown_moves ids stood held was is)
+      (shown_parts ids stood held was is) before after
+
   pub by_sources : (ids : List ℕ) (q : Query) (stood held : List SourceHeld) (old new : List Source)
       (before after : List PartId)
       → AllStanding objects [] from ids stood
@@ -522,9 +482,7 @@ module _ (objects : List (Bor StoredObject)) (brought : List ℕ) (from to : ℕ
       → AsksAmong (asked_between q old new) before after
       → AsksByMoves (IsFiledIn objects brought) objects from to ids q before after
   by_sources ids q stood held old new before after was is old_is new_is asks =
-      by_places (IsFiledIn objects brought) objects from to ids q (first_at held stood) (first_at stood held)
-      (shown_at ids stood held is) (shown_moves ids stood held was is)
-      (shown_parts ids stood held was is) before after
+      sources_among ids q stood held before after was is
       (subst (λ names. AsksAmong names before after)
       (λ i. asked_for q (filed_in_view (moved_of (new_is i) (old_is i)))
       ++ asked_for q (filed_in_view (moved_of (old_is i) (new_is i)))) asks)

@@ -1,5 +1,5 @@
 -- Changes of the groups that are kept of dynamic tables.
---     found_first, found_further     what is found leads to the rows and groups of the query
+--     found_nothing, found_first, found_further     what is found leads to the rows and groups of the query
 --     net_first               the net from no rows is the rows that come
 --     first_stood, later_stood, stands_with     the groups from which it leads
 --     none_regrouped, some_regrouped     so does what is made of it
@@ -82,12 +82,17 @@ module _ (stamp moment : ℕ) (bs : List machine.Brought) (objects : List Object
       ap (of_one (groups_of g.by g.calls)) (nothing_before g.below (grouping_is query g has.is).1)
       ∙ groups_found g.by g.calls no_rows empty (groups_nothing g.by g.calls)
 
+  pub found_nothing : (q : Query) (found : Option KeptChange) → q ≡ query → KeepsBetween q [] held empty found
+      → FindsGroups no_rows empty now moment d found
+  found_nothing q found bound keeps =
+      found_between q [] held no_rows empty found bound refl
+      (group_nothing query has.group has.is has.key has.keys has.by) nothing_told keeps
+
   pub found_first : (q : Query) (comes : Instance) (groups : Groups) (found : Option KeptChange) → q ≡ query
       → comes ≡ held → groups ≡ empty → Keeps q (record { old = []; comes = comes; goes = [] }) groups found
       → FindsGroups no_rows empty now moment d found
   found_first q comes groups found bound come none keeps =
-      found_between q [] held no_rows empty found bound refl
-      (group_nothing query has.group has.is has.key has.keys has.by) nothing_told
+      found_nothing q found bound
       (subst (λ (gs : Groups). KeepsBetween q [] held gs found) none (keeps.leads held (first_turns comes held come)))
 
   pub found_further : (q : Query) (from : ℕ) (ids : List ℕ) (new : Instance) (was : Bag) (groups : Groups)

@@ -13,3 +13,7 @@ mod MovesLaws
 mod AskLaws
 mod WaveLaws
 mod DoneLaws
+mod LoadingLaws
+mod NeedsLaws
+mod WorkedLaws
+mod WorkedLemmas

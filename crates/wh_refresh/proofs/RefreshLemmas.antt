@@ -6,18 +6,15 @@
 --     evaluated_over                          what a query gives over its sources
 --     one_without, one_bare, one_by           what is done to one table
 --     rises, above_rise                       ids that rise
---     far_begun, far_further, far_stopped, far_done     several, by rising ids
 --     all_written                             the changes that say it
 --     suspended_found                         whether a table is suspended
-use Rattle.std.proofs.Common.{◌≡◌, ℕ, zero, suc, ◌<◌, Bool, true, false, cond, List, [], ◌∷◌, ◌++◌, map}
-use Rattle.std.proofs.Common.{Option, Some, None, option_map, refl, sym, ap, subst, ◌∙◌, arith}
-use Rattle.std.specs.Prelude.{◌||◌, ◌&&◌, nat_eq, nat_le, nat_lt, is_some, unwrap_or}
+use Rattle.std.proofs.Common.{◌≡◌, ℕ, zero, suc, ◌<◌, Bool, true, false, List, [], ◌∷◌, ◌++◌, map}
+use Rattle.std.proofs.Common.{Option, Some, None, option_map, refl, sym, ap, ◌∙◌, arith}
+use Rattle.std.specs.Prelude.{◌||◌, ◌&&◌, nat_le, nat_lt, is_some, unwrap_or}
 use Rattle.std.specs.List.{AllByRecursion, flat_map, list_any}
 use Rattle.std.specs.Option.{IsSomeAnd, option_and_then, option_map_or}
 use Rattle.std.specs.FinMap.{values}
 use denote.Ref.{Bor}
-use Rattle.std.proofs.lemmas.Bool.Decides.{nat_tests}
-use Rattle.std.proofs.lemmas.List.{append-nil, append_assoc}
 use Rattle.wh_naming.specs.Select.{BoundQuery}
 use Rattle.wh_meaning.specs.Bag.{Bag, bag_of, no_rows}
 use Rattle.wh_meaning.specs.Query.{eval}
@@ -40,17 +37,16 @@ use Rattle.wh_moment.specs.Upstream.{Watched, Dynamics, watched, watched_at, wat
 use Rattle.wh_moment.proofs.UpstreamLaws.{RiseFrom, brought_rise, brought_watched}
 use Rattle.wh_moment.specs.Moment.{is_suspended_at}
 use Rattle.wh_machine.specs.Refresh as machine
-use Rattle.wh_machine.specs.Refresh.{version_acts, acts_of_one, has_version_between, brought_all, brought_one}
+use Rattle.wh_machine.specs.Refresh.{version_acts, acts_of_one, has_version_between, brought_one}
 use Rattle.wh_machine.specs.Refresh.{brought_by}
-use Rattle.wh_machine.specs.Refresh.{action_of, brought_then, brought_with}
-use Rattle.wh_machine.specs.Brought.{after_one, after_all, RiseAbove, AreAbove, sought, edits_sought}
+use Rattle.wh_machine.specs.Refresh.{action_of, brought_with}
+use Rattle.wh_machine.specs.Brought.{after_all, RiseAbove, AreAbove, sought, edits_sought}
 use Rattle.wh_machine.proofs.AfterLaws.{table_brought, table_after, dynamic_after, bound_after, refreshed_rows}
-use Rattle.wh_machine.proofs.AfterLaws.{refreshed_between, after_last}
+use Rattle.wh_machine.proofs.AfterLaws.{refreshed_between}
 use Rattle.wh_refresh.specs.declared.brought.Brought.{Brought}
 use Rattle.wh_refresh.specs.declared.brought.NewRows.{NewRows}
 use Rattle.wh_refresh.specs.Sources.{is_new_at}
-use Rattle.wh_refresh.specs.Brought.{IsRowsOf, IsBrought, AreBrought, BringsOne, Brings, before, RiseBehind}
-use Rattle.wh_refresh.specs.Brought.{BroughtSoFar}
+use Rattle.wh_refresh.specs.Brought.{IsRowsOf}
 use Rattle.wh_refresh.specs.Writing.{one_written}
 
 -- ---- sources
@@ -225,93 +221,6 @@ rises all id target = begin (brought all id target) (brought_rise all id target)
 pub above_rise : (least : ℕ) (bs : List machine.Brought) → RiseAbove least (map (λ b. b.id) bs) → AreAbove least bs
 above_rise least [] rise = tt
 above_rise least (b ∷ bs) rise = (rise.0, above_rise b.id bs rise.1)
-
-pub rise_above : (least : ℕ) (bs : List machine.Brought) (ids : List ℕ) → RiseBehind least bs ids → AreAbove least bs
-rise_above least [] ids rise = tt
-rise_above least (b ∷ bs) ids rise = (rise.0, rise_above b.id bs ids rise.1)
-
-below_next : (least : ℕ) (bs : List machine.Brought) (id : ℕ) (ids : List ℕ) → RiseBehind least bs (id ∷ ids)
-    → least < id
-below_next least [] id ids rise = rise.0
-below_next least (b ∷ bs) id ids rise = let later = below_next b.id bs id ids rise.1 in omega (arith, rise.0)
-
-pub not_sought : (least : ℕ) (bs : List machine.Brought) (id : ℕ) (ids : List ℕ) → RiseBehind least bs (id ∷ ids)
-    → sought id bs ≡ None
-not_sought least [] id ids rise = refl
-not_sought least (b ∷ bs) id ids rise =
-    let later = below_next b.id bs id ids rise.1 in
-    let apart : nat_eq b.id id ≡ false = grind (arith, nat_tests) in
-    ap (λ (t : Bool). cond t (Some b) (sought id bs)) apart ∙ not_sought b.id bs id ids rise.1
-
-rise_further : (least : ℕ) (bs : List machine.Brought) (b : machine.Brought) (ids : List ℕ)
-    → RiseBehind least bs (b.id ∷ ids) → RiseBehind least (bs ++ b ∷ []) ids
-rise_further least [] b ids rise = rise
-rise_further least (c ∷ bs) b ids rise = (rise.0, rise_further c.id bs b ids rise.1)
-
-are_further : (stored : List StoredObject) (all : List Brought) (bs : List machine.Brought) (one : Brought)
-    (b : machine.Brought) → AreBrought stored all bs → IsBrought stored one b
-    → AreBrought stored (all ++ one ∷ []) (bs ++ b ∷ [])
-are_further stored [] [] one b are is = (is, tt)
-are_further stored (c ∷ all) (d ∷ bs) one b are is = (are.0, are_further stored all bs one b are.1 is)
-are_further stored [] (d ∷ bs) one b are is = absurd are
-are_further stored (c ∷ all) [] one b are is = absurd are
-
-before_nothing : (found : Option (List machine.Brought)) → before [] found ≡ found
-before_nothing None = refl
-before_nothing (Some bs) = refl
-
-before_more : (bs : List machine.Brought) (b : machine.Brought) (found : Option (List machine.Brought))
-    → before bs (option_map (λ more. b ∷ more) found) ≡ before (bs ++ b ∷ []) found
-before_more bs b None = refl
-before_more bs b (Some more) = ap Some (sym (append_assoc bs (b ∷ []) more))
-
-module _ (stored : List StoredObject) (objects : List Object) (stamp moment : ℕ) (ids : List ℕ) where
-  pub far_begun : RiseAbove 0 ids → BroughtSoFar stored objects stamp moment ids ids []
-  far_begun rise = record {
-    brought = [];
-    are = tt;
-    rise = rise;
-    is = sym (before_nothing (brought_all stamp moment ids objects));
-  }
-
-  pub far_further : (id : ℕ) (left : List ℕ) (all : List Brought) (one : Brought)
-      (far : BroughtSoFar stored objects stamp moment ids (id ∷ left) all)
-      → one.id ≡ id
-      → BringsOne stored one (brought_one (after_all stamp moment far.brought objects) moment id)
-      → BroughtSoFar stored objects stamp moment ids left (all ++ one ∷ [])
-  far_further id left all one far same brings =
-      let b : machine.Brought = brings.brought in
-      let now : List Object = after_all stamp moment far.brought objects in
-      record {
-        brought = far.brought ++ b ∷ [];
-        are = are_further stored all far.brought one b far.are brings.same;
-        rise = rise_further 0 far.brought b left
-            (subst (λ (n : ℕ). RiseBehind 0 far.brought (n ∷ left)) (sym (brings.same.id ∙ same)) far.rise);
-        is = far.is
-            ∙ ap (λ (found : Option machine.Brought). before far.brought
-            (brought_then (brought_all stamp moment left) stamp moment now found)) brings.is
-            ∙ before_more far.brought b (brought_all stamp moment left (after_one stamp moment b now))
-            ∙ ap (λ (os : List Object). before (far.brought ++ b ∷ []) (brought_all stamp moment left os))
-            (sym (after_last stamp moment far.brought b objects));
-      }
-
-  pub far_stopped : (id : ℕ) (left : List ℕ) (all : List Brought)
-      (far : BroughtSoFar stored objects stamp moment ids (id ∷ left) all)
-      → brought_one (after_all stamp moment far.brought objects) moment id ≡ None
-      → brought_all stamp moment ids objects ≡ None
-  far_stopped id left all far none =
-      far.is
-      ∙ ap (λ (found : Option machine.Brought). before far.brought
-      (brought_then (brought_all stamp moment left) stamp moment (after_all stamp moment far.brought objects) found))
-      none
-
-  pub far_done : (all : List Brought) → BroughtSoFar stored objects stamp moment ids [] all
-      → Brings stored all (brought_all stamp moment ids objects)
-  far_done all far = record {
-    brought = far.brought;
-    is = far.is ∙ ap Some (append-nil far.brought);
-    are = far.are;
-  }
 
 -- ---- the changes that say it
 

@@ -8,23 +8,21 @@
 --     next                 what the next of a wave comes to
 --     all_then, all_wider  what several ask for, one after the other, and beside more
 --     all_counted          those that are counted by their ids are
-use Rattle.std.proofs.Common.{◌≡◌, ℕ, zero, suc, ◌+◌, ◌<◌, ◌≤◌, ◌⊎◌, inl, inr, Bool, true, false, cond, List, [], ◌∷◌, ◌++◌}
-use Rattle.std.proofs.Common.{map, length, take, drop, get_or, Contains, Option, None, Some, refl, sym, ap, subst, ◌∙◌}
+use Rattle.std.proofs.Common.{◌≡◌, ℕ, ◌+◌, ◌<◌, ◌≤◌, ◌⊎◌, inl, inr, Bool, true, false, cond, List, [], ◌∷◌, ◌++◌}
+use Rattle.std.proofs.Common.{length, take, drop, get_or, Contains, Option, None, Some, refl, sym, ap, subst, ◌∙◌}
 use Rattle.std.proofs.Common.{arith}
 use Rattle.std.specs.Prelude.{◌||◌, nat_eq, nat_lt}
-use Rattle.std.specs.List.{AllByRecursion}
 use Rattle.std.proofs.lemmas.Bool.Decides.{nat_tests}
-use Rattle.std.proofs.lemmas.List.{append_assoc, append-nil, take_more, map-append, take-append-drop}
+use Rattle.std.proofs.lemmas.List.{append_assoc, take_more, map-append, take-append-drop}
 use Rattle.std.proofs.lemmas.List.Elements.{Contains-append_left, Contains-append_right, Contains-append_cases}
 use denote.Ref.{Bor}
 use Rattle.wh_part.specs.declared.meta.PartId.{PartId}
 use Rattle.wh_filed.specs.Filed.{Filed}
-use Rattle.wh_reply.specs.View.{action_view}
 use Rattle.wh_state.specs.State.{Object}
 use Rattle.wh_state.specs.Stored.{StoredObject}
 use Rattle.wh_state.specs.Edits.{is_among}
 use Rattle.wh_state.proofs.FoundLaws.{same_or_not}
-use Rattle.wh_moment.specs.Upstream.{Dynamics, dynamics_of}
+use Rattle.wh_moment.specs.Upstream.{Dynamics}
 use Rattle.wh_machine.specs.Refresh as machine
 use Rattle.wh_machine.specs.Refresh.{brought_one}
 use Rattle.wh_machine.specs.Brought.{after_all, AreAbove, RiseAbove, sought}
@@ -33,11 +31,11 @@ use Rattle.wh_waves.specs.Settled.{below, put_in}
 use Rattle.wh_waves.proofs.SoughtLaws.{sought_here, sought_there, low_or_high, kept_front, none_below, left_front}
 use Rattle.wh_waves.proofs.SoughtLaws.{below_above, below_none}
 use Rattle.wh_waves.proofs.SoughtLaws.{put_first, put_later}
-use Rattle.wh_waves.proofs.StepLaws.{HaveSame, rise_same, not_low}
+use Rattle.wh_waves.proofs.StepLaws.{rise_same, not_low}
 use Rattle.wh_waves.proofs.WaveLaws.{waves_are}
 use Rattle.wh_catalog.specs.declared.object.StoredObject as catalog
 use Rattle.wh_refresh.specs.Brought.{IsBrought, AreBrought, BringsOneOr}
-use Rattle.wh_refresh.specs.Asked.{ids_of, actions_of, by_waves, AreCounted, AsksOf, AsksOfAll}
+use Rattle.wh_refresh.specs.Asked.{ids_of, actions_of, AreCounted, AsksOfAll}
 use Rattle.wh_refresh.specs.Waves.{front_below, put_one, put_id, put_all, IsCountedOne, AllCounted}
 use Rattle.wh_refresh.specs.declared.brought.Brought.{Brought}
 use Rattle.wh_refresh.proofs.AskLaws.{asks_wider}

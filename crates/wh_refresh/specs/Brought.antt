@@ -5,9 +5,8 @@
 --     IsBrought, AreBrought     what is done to a table, and to several
 --     HoldsBehind           what holds of all objects behind those that were brought to the moment
 --     BringsOne, Brings     what bringing one, and several, comes to
---     BroughtSoFar          what several that were brought so far leave to do
 --     SaidSoFar             what was said of several so far, and what is left to say
-use Rattle.std.specs.Prelude.{◌≡◌, ◌<◌, ℕ, List, [], ◌∷◌, ◌++◌, length, Option, Some, None, option_map}
+use Rattle.std.specs.Prelude.{◌≡◌, ℕ, List, [], ◌∷◌, ◌++◌, length, Option, Some, None, option_map}
 use Rattle.std.specs.Option.{option_and_then}
 use Rattle.std.specs.declared.vec.Vec.{Vec}
 use Rattle.std.specs.declared.alloc.Global.{Global}
@@ -25,7 +24,7 @@ use Rattle.wh_moment.specs.Rebase.{rebase}
 use Rattle.wh_table.specs.Edited.{IsEdited}
 use Rattle.wh_table.specs.declared.editing.EditedTable.{EditedTable}
 use Rattle.wh_machine.specs.Refresh as machine
-use Rattle.wh_machine.specs.Brought.{after_all, RiseAbove, AreAbove}
+use Rattle.wh_machine.specs.Brought.{after_all, AreAbove}
 use Rattle.wh_dynamic.specs.View.{state_of, groups_change_of}
 use Rattle.wh_catalog.specs.declared.object.StoredObject.{StoredObject}
 use Rattle.wh_refresh.specs.Objects.{objects_in, stored_in}
@@ -100,23 +99,6 @@ pub record Brings (stored : List file.StoredObject) (all : List Brought) (found 
 abbrev pub BringsOr : List file.StoredObject → Option (Vec Brought Global) → Option (List machine.Brought) → Type 0
 BringsOr stored None found = found ≡ None
 BringsOr stored (Some all) found = Brings stored all.items found
-
--- in front of what bringing others gives
-abbrev pub before : List machine.Brought → Option (List machine.Brought) → Option (List machine.Brought)
-before bs found = option_map (λ more. bs ++ more) found
-
--- the ids lie above those of the tables so far, and rise
-abbrev pub RiseBehind : ℕ → List machine.Brought → List ℕ → Type 0
-RiseBehind least [] ids = RiseAbove least ids
-RiseBehind least (b ∷ bs) ids = (least < b.id) × RiseBehind b.id bs ids
-
-pub record BroughtSoFar (stored : List file.StoredObject) (objects : List Object) (stamp moment : ℕ)
-    (ids left : List ℕ) (all : List Brought) : Type 0 where
-  pub brought : List machine.Brought
-  pub are : AreBrought stored all brought
-  pub rise : RiseBehind 0 brought left
-  pub is : machine.brought_all stamp moment ids objects
-      ≡ before brought (machine.brought_all stamp moment left (after_all stamp moment brought objects))
 
 pub record SaidSoFar {X : Type 0} (stored : List file.StoredObject) (left : List Brought) (so_far : List X)
     (said : List machine.Brought → List X) (bs : List machine.Brought) : Type 0 where

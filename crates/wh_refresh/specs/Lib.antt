@@ -10,3 +10,6 @@ pub mod Refreshing
 pub mod Writing
 pub mod Standing
 pub mod Waves
+pub mod Loading
+pub mod Needs
+pub mod AtOnce

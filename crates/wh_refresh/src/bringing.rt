@@ -10,14 +10,12 @@ ghost use Rattle.wh_state.specs.Stored.{table_meant};
 ghost use Rattle.wh_dynamic.specs.View.{dynamic_of};
 ghost use Rattle.wh_table.specs.Table.{table_of, filed_of};
 ghost use Rattle.wh_machine.specs.Refresh as machine;
-ghost use Rattle.wh_machine.specs.Brought.{after_all, AreAbove, RiseAbove, sought};
+ghost use Rattle.wh_machine.specs.Brought.{after_all, AreAbove, sought};
 ghost use Rattle.wh_refresh.specs.Objects.{objects_in, stored_in, filed_at_objects};
-ghost use Rattle.wh_refresh.specs.Brought.{AreBrought, HoldsBehind, BringsOneOr, BringsOr};
-ghost use Rattle.wh_refresh.specs.Brought.{MakesRows};
+ghost use Rattle.wh_refresh.specs.Brought.{AreBrought, HoldsBehind, BringsOneOr, MakesRows};
 ghost use Rattle.wh_refresh.specs.Standing.{StandsBy, AllStand};
-ghost use Rattle.wh_refresh.specs.Asked.{ids_of, actions_of, IsFiledIn, Besides};
-ghost use Rattle.wh_refresh.specs.Asked.{IsCounted, IsCountedBy};
-ghost use Rattle.wh_refresh.specs.Asked.{AreCounted, AsksOfChange, AsksOf, AsksOfAll};
+ghost use Rattle.wh_refresh.specs.Asked.{ids_of, IsFiledIn, Besides};
+ghost use Rattle.wh_refresh.specs.Asked.{IsCounted, IsCountedBy, AsksOfChange, AsksOf};
 
 use crate::brought::{Brought, NewRows};
 use crate::objects::{dynamic_at, table_at};
@@ -89,7 +87,7 @@ pub(crate) fn bring<R: Threads + Sync, F: Fetch>(
 }
 
 // That there is nothing new is looked at first.
-fn action(
+pub(crate) fn action(
     objects: &[&StoredObject],
     before: &[Brought],
     moment: u64,

@@ -66,7 +66,7 @@ pub(crate) fn bound(
     bind_query(alloc, &names, 0, query.tree.get())
 }
 
-fn evaluated_over<R: Threads + Sync, F: Fetch>(
+pub(crate) fn evaluated_over<R: Threads + Sync, F: Fetch>(
     workers: &Workers<'_, R>,
     query: &Query,
     sources: &[Source<'_>],

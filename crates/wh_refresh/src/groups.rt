@@ -155,7 +155,7 @@ fn rebased_from_groups<R: Threads + Sync, F: Fetch>(
     Ok(Some(regrouped(rebased, kept, entries)))
 }
 
-fn regrouped(rebased: Rebased, kept: &Kept, entries: Vec<Entry>) -> Regrouped
+pub(crate) fn regrouped(rebased: Rebased, kept: &Kept, entries: Vec<Entry>) -> Regrouped
     ensures rebased { result.rebased ≡ rebased }
     ensures groups { option_map groups_change_of result.groups ≡ Some (record {
       keys = (kept_of kept.now).keys;

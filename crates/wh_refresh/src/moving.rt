@@ -1,5 +1,5 @@
 //! What came in sources and what of them went, from one moment to another.
-ghost use Rattle.std.specs.Prelude.{◌≡◌, ◌≤◌, ◌++◌, [], List, is_some, Contains, IfOk};
+ghost use Rattle.std.specs.Prelude.{◌≡◌, ◌≤◌, ◌++◌, [], List, length, is_some, Contains, IfOk};
 ghost use Rattle.std.specs.List.{AllByRecursion, list_any};
 ghost use Rattle.wh_state.specs.Stored.{StoredObject as FileObject};
 ghost use Rattle.wh_machine.specs.Refresh as machine;
@@ -10,7 +10,9 @@ ghost use Rattle.wh_maintenance.specs.Turn.{IsTurn};
 ghost use Rattle.wh_exec.specs.Source.{parts_bag};
 ghost use Rattle.wh_filed.specs.Filed.{filed_at, partitions_at};
 ghost use Rattle.wh_state.specs.Moments.{bag_at};
-ghost use Rattle.wh_refresh.specs.Sources.{bag_held, bags_held, filed_by, filed_held, AllTurn};
+ghost use Rattle.wh_delta.specs.Moved.{moved_of};
+ghost use Rattle.wh_refresh.specs.Sources.{bag_held, bags_held, filed_by, filed_held, views_held};
+ghost use Rattle.wh_refresh.specs.Sources.{AllTurn};
 ghost use Rattle.wh_refresh.specs.Asked.{Moves, AllMoved};
 
 use crate::brought::{Brought, new_rows_of};
@@ -18,6 +20,7 @@ use crate::objects::table_at;
 use crate::sources::SourceHeld;
 use std::alloc::{AllocError, Global};
 use wh_catalog::StoredObject;
+use wh_delta::only_in;
 use wh_filed::FiledPartition;
 use wh_version::Turnover;
 
@@ -110,4 +113,32 @@ fn is_brought(brought: &[Brought], id: u32) -> bool
         → AreBrought stored brought.now bs → result ≡ is_some (edits_sought id bs) }
 {
     new_rows_of(brought, id).is_some()
+}
+
+/// What sources hold of what they didn't hold before, and what they held before and don't any more.
+pub(crate) fn sources_parted<'a>(
+    alloc: Global,
+    stood: &[SourceHeld<'a>],
+    held: &[SourceHeld<'a>],
+) -> Result<SourcesMoved<'a>, AllocError>
+    requires { length stood.now ≡ length held.now }
+    ensures came { IfOk result (λ moved.
+        views_held moved.came.items ≡ moved_of (views_held held.now) (views_held stood.now)) }
+    ensures went { IfOk result (λ moved.
+        views_held moved.went.items ≡ moved_of (views_held stood.now) (views_held held.now)) }
+{
+    let mut came = Vec::new(alloc);
+    let mut went = Vec::new(alloc);
+    for place in 0..held.len().min(stood.len()) {
+        let (old, new) = (&stood[place], &held[place]);
+        came.push(SourceHeld {
+            filed: only_in(alloc, &new.filed, &old.filed)?,
+            made: new.made,
+        })?;
+        went.push(SourceHeld {
+            filed: only_in(alloc, &old.filed, &new.filed)?,
+            made: old.made,
+        })?;
+    }
+    Ok(SourcesMoved { came, went })
 }

@@ -1,4 +1,4 @@
-use Rattle.std.proofs.Common.{rules, ◌≡◌, ℕ, ◌<◌, ◌≤◌, Bool, List, [], ◌++◌, take, length, Ok, Vec, Global, subst, sym, ap, ◌∙◌}
+use Rattle.std.proofs.Common.{rules, ◌≡◌, ℕ, List, [], ◌++◌, take, Ok, subst, sym, ap, ◌∙◌}
 use Rattle.std.proofs.lemmas.List.{take_all}
 use Rattle.wh_filed.proofs.FetchingLaws.{still_covered}
 use Rattle.wh_moment.specs.Upstream.{Dynamics, dynamics_of}

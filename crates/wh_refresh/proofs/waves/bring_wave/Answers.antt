@@ -1,20 +1,16 @@
-use Rattle.std.proofs.Common.{rules, ◌≡◌, ℕ, ◌+◌, List, [], ◌∷◌, ◌++◌, take, slice_index_or, Contains, Option, None, Some}
+use Rattle.std.proofs.Common.{rules, ◌≡◌, ℕ, List, [], ◌∷◌, ◌++◌, take, slice_index_or, Contains, Option, None}
 use Rattle.std.proofs.Common.{subst, sym, ap, ◌∙◌}
 use Rattle.std.proofs.lemmas.List.{take_more}
 use Rattle.wh_filed.proofs.FetchingLaws.{still_covered}
-use Rattle.wh_filed.specs.Fetching.{AllShownBy}
 use Rattle.wh_reply.specs.View.{action_view}
-use Rattle.wh_state.specs.State.{Object}
-use Rattle.wh_machine.specs.Refresh as machine
 use Rattle.wh_machine.specs.Refresh.{brought_one}
-use Rattle.wh_machine.specs.Brought.{after_all, RiseAbove, sought}
-use Rattle.wh_waves.specs.Settled.{below, put_in, Settled, AreReady}
+use Rattle.wh_machine.specs.Brought.{after_all, sought}
+use Rattle.wh_waves.specs.Settled.{below, put_in}
 use Rattle.wh_waves.proofs.StepLaws.{ready_now, more_next, wave_lacks}
 use Rattle.wh_refresh.specs.Objects.{objects_in, stored_in, filed_at_objects}
-use Rattle.wh_refresh.specs.Standing.{AllStand}
 use Rattle.wh_refresh.specs.Brought.{AreBrought, BringsOne, BringsOneOr}
-use Rattle.wh_refresh.specs.Asked.{ids_of, IsFiledIn, IsCountedBy, AsksOf, AsksOfAll}
-use Rattle.wh_refresh.specs.Waves.{front_below, put_one, put_id, put_all, MoreBrought, AllCounted}
+use Rattle.wh_refresh.specs.Asked.{ids_of, IsFiledIn, IsCountedBy, AsksOfAll}
+use Rattle.wh_refresh.specs.Waves.{front_below, put_one, put_id, MoreBrought, AllCounted}
 use Rattle.wh_refresh.specs.declared.brought.Brought.{Brought}
 use Rattle.wh_refresh.proofs.AskLaws.{asks_next, asks_wider}
 use Rattle.wh_refresh.proofs.SourceLemmas.{still_shown}

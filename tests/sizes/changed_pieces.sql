@@ -1,0 +1,42 @@
+CREATE TABLE T(K NUMBER, V NUMBER);
+INSERT INTO T VALUES (1, 1);
+INSERT INTO T SELECT K + 1, V + 1 FROM T;
+INSERT INTO T SELECT K + 2, V + 2 FROM T;
+INSERT INTO T SELECT K + 4, V + 4 FROM T;
+INSERT INTO T SELECT K + 8, V + 8 FROM T;
+INSERT INTO T SELECT K + 16, V + 16 FROM T;
+INSERT INTO T SELECT K + 32, V + 32 FROM T;
+INSERT INTO T SELECT K + 64, V + 64 FROM T;
+INSERT INTO T SELECT K + 128, V + 128 FROM T;
+INSERT INTO T SELECT K + 256, V + 256 FROM T;
+INSERT INTO T SELECT K + 512, V + 512 FROM T;
+INSERT INTO T SELECT K + 1024, V + 1024 FROM T;
+INSERT INTO T SELECT K + 2048, V + 2048 FROM T;
+INSERT INTO T SELECT K + 4096, V + 4096 FROM T;
+-- the upper half of 8,192 rows
+UPDATE T SET V = V + K WHERE K * 2 > 8192;
+SELECT COUNT(*) AS N, SUM(V) AS S FROM T;
+-- from their midst
+DELETE FROM T WHERE K > 2000 AND K * 2 <= 12384;
+SELECT COUNT(*) AS N, SUM(K) AS S FROM T;
+INSERT INTO T VALUES (999999999999999999, 0);
+INSERT INTO T SELECT K + 10000, V FROM T WHERE K <= 8192;
+-- a new value of one row of 8,001, in their midst, is none: no row changes
+UPDATE T SET V = K + 1 WHERE V >= 0;
+-- nor does one go where a condition has no value
+DELETE FROM T WHERE K * 2 > 0;
+SELECT COUNT(*) AS N, SUM(V) AS S FROM T;
+CREATE TABLE S(K NUMBER, W NUMBER);
+INSERT INTO S VALUES (1, 5), (8192, 6), (18192, 7), (40000, 8);
+-- rows of the first piece, of one in the midst and of the last, and a row that none of them meets
+MERGE INTO T USING S ON T.K = S.K WHEN MATCHED AND S.W = 6 THEN DELETE WHEN MATCHED THEN UPDATE SET V = S.W WHEN NOT MATCHED THEN INSERT (K, V) VALUES (S.K, S.W);
+SELECT K, V FROM T WHERE K = 1 OR K = 8191 OR K = 8192 OR K = 18192 OR K = 40000 ORDER BY K;
+-- a source row that a row of the last piece alone meets isn't inserted again
+MERGE INTO T USING S ON T.K = S.K WHEN NOT MATCHED THEN INSERT (K, V) VALUES (S.K, 0);
+SELECT COUNT(*) AS N, SUM(V) AS S FROM T WHERE K = 8192 OR K = 40000;
+-- of two rows for which several source rows are chosen the first is told
+INSERT INTO S VALUES (18192, 9), (8191, 1), (8191, 2);
+MERGE INTO T USING S ON T.K = S.K WHEN MATCHED THEN UPDATE SET V = S.W;
+-- what has no value comes before what is ambiguous, wherever it stands
+MERGE INTO T USING S ON T.K + 1 = S.K + 1 WHEN MATCHED THEN UPDATE SET V = S.W;
+SELECT COUNT(*) AS N FROM T;
